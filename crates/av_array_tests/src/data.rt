@@ -31,22 +31,22 @@ fn push_fault(out: &mut String, fault: &DataFault) -> Result<(), Fail> {
 
 /// A domain with one point.
 #[derive(Clone, Copy)]
-struct Place {
+struct DomainPoint {
     domain: &'static str,
     point: &'static [i64],
 }
 
-const NOWHERE: Place = Place {
+const NOWHERE: DomainPoint = DomainPoint {
     domain: "|",
     point: &[],
 };
 
-const ZERO: Place = Place {
+const ZERO: DomainPoint = DomainPoint {
     domain: "i | i=0",
     point: &[0],
 };
 
-const TWO: Place = Place {
+const TWO: DomainPoint = DomainPoint {
     domain: "i,j | i=0; j=-1",
     point: &[0, -1],
 };
@@ -74,7 +74,7 @@ fn system_of(alloc: Global, domain: &str, bits: u32) -> Result<Flat, Fail>
 /// What the lines say of the input X of a system with this domain, in words of so many bits.
 fn inputs(
     alloc: Global,
-    place: Place,
+    place: DomainPoint,
     lines: &[u8],
     bits: u32,
 ) -> Result<Result<Inputs, DataFault>, Fail> {
@@ -112,7 +112,7 @@ fn push_found(
 }
 
 /// The word of the domain's point, or the fault.
-fn answer(alloc: Global, place: Place, lines: &[u8], bits: u32) -> Result<String, Fail> {
+fn answer(alloc: Global, place: DomainPoint, lines: &[u8], bits: u32) -> Result<String, Fail> {
     let found = inputs(alloc, place, lines, bits)?;
     let mut out = String::new(alloc);
     push_found(&mut out, alloc, found, place.point)?;
@@ -122,7 +122,7 @@ fn answer(alloc: Global, place: Place, lines: &[u8], bits: u32) -> Result<String
 fn assert_answer(
     rt: &impl Abort,
     alloc: Global,
-    place: Place,
+    place: DomainPoint,
     lines: &[u8],
     bits: u32,
     wanted: &str,
@@ -131,7 +131,7 @@ fn assert_answer(
     Ok(())
 }
 
-type Row = (Place, &'static [u8], &'static str);
+type Row = (DomainPoint, &'static [u8], &'static str);
 
 /// Lines that say words of 8 bits.
 const SAID: &[Row] = &[

@@ -20,7 +20,7 @@ use crate::kernels::{
     TRIANGULAR_SOLVE, WINDOW,
 };
 use av_base::{List, MemSink, Width};
-use av_compile::{Array, mapped};
+use av_compile::{MappedSystem, mapped};
 use av_flat::Reach;
 use av_net::flatten;
 use av_stream::{Streamed, build_stream, period, write_stream};
@@ -34,7 +34,7 @@ use std::process::Abort;
 use std::test::Fail;
 
 /// The array of a text with these sizes, in words of 8 bits.
-fn array_of(alloc: Global, text: &str, sizes: &[(&str, i64)]) -> Result<Array, Fail>
+fn array_of(alloc: Global, text: &str, sizes: &[(&str, i64)]) -> Result<MappedSystem, Fail>
     ensures legal { IfOk result (λ array. IsLegal array.timed) }
     ensures whole { IfOk result (λ array. IsWhole array.timed array.cells) }
     ensures within { IfOk result (λ array. (f : Fault) → IsSpaceFault array.timed f → f ≡ fault.Memory) }

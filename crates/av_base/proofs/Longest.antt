@@ -7,8 +7,8 @@ use Rattle.std.proofs.Math.Seq.{take-append_seam}
 use Rattle.std.proofs.lemmas.List.{length-take, take-append-drop}
 use Rattle.std.proofs.lemmas.List.Elements.{All-from_recursion, recursion_from_All}
 use Rattle.std.proofs.lemmas.List.Sums.{prefix_len-le-length}
-use Rattle.av_base.specs.declared.piece.Piece.{Piece}
-use Rattle.av_base.specs.declared.piece.Piece.TheVariants as piece
+use Rattle.av_base.specs.declared.lexeme.Lexeme.{Lexeme}
+use Rattle.av_base.specs.declared.lexeme.Lexeme.TheVariants as piece
 use Rattle.av_base.specs.Lexicon.{Lexicon, IsLongest, BeginsNone, is_blank}
 use Rattle.av_base.specs.Reading.{Scanner}
 use Rattle.av_base.proofs.Runs.{run_covers, run_all}
@@ -16,7 +16,7 @@ use Rattle.av_base.proofs.Runs.{run_covers, run_all}
 -- ---- what a scanner shows of its lexicon
 
 -- what is spelled is covered by the token that is found
-pub record Covers {Kind : Type 0} (k : Kind) (len : ℕ) (found : Piece Kind) : Type 0 where
+pub record Covers {Kind : Type 0} (k : Kind) (len : ℕ) (found : Lexeme Kind) : Type 0 where
   pub kind : Kind
   pub len' : ℕ
   pub is : found ≡ piece.Token kind len'
@@ -29,7 +29,7 @@ pub record Fits {Kind : Type 0} (lexicon : Lexicon Kind) (k : Kind) (n : ℕ) (b
   pub some : 0 < n
   pub within : n ≤ length bytes
 
-abbrev pub IsNoGap : {Kind : Type 0} → Piece Kind → Type 0
+abbrev pub IsNoGap : {Kind : Type 0} → Lexeme Kind → Type 0
 IsNoGap (piece.Gap n) = ⊥
 IsNoGap _ = Unit {0}
 
@@ -48,7 +48,7 @@ pub record Finds {Kind Fault : Type 0} (lexicon : Lexicon Kind) (scanner : Scann
 -- ---- what its parts show
 
 -- a run of bytes is covered by the token of all bytes that go on so
-run_covered : {Kind : Type 0} (kind_of : List ℕ → Kind) (p : ℕ → Bool) (k : Kind) (front back : List ℕ) (found : Piece Kind)
+run_covered : {Kind : Type 0} (kind_of : List ℕ → Kind) (p : ℕ → Bool) (k : Kind) (front back : List ℕ) (found : Lexeme Kind)
     → AllByRecursion (λ x. p x ≡ true) front → kind_of front ≡ k → found ≡ piece.Token (kind_of (take (prefix_len p (front ++ back)) (front ++ back))) (prefix_len p (front ++ back)) → Covers k (length front) found
 run_covered kind_of p k front back found all w e = record {
   kind = kind_of (take (prefix_len p (front ++ back)) (front ++ back));
@@ -59,7 +59,7 @@ run_covered kind_of p k front back found all w e = record {
 }
 
 -- the same of a run that is told by its first byte
-pub run_token_covers : {Kind : Type 0} (kind_of : List ℕ → Kind) (is_first p : ℕ → Bool) (token_of : ℕ → List ℕ → Piece Kind) → ((b : ℕ) → is_first b ≡ true → p b ≡ true)
+pub run_token_covers : {Kind : Type 0} (kind_of : List ℕ → Kind) (is_first p : ℕ → Bool) (token_of : ℕ → List ℕ → Lexeme Kind) → ((b : ℕ) → is_first b ≡ true → p b ≡ true)
     → ((b : ℕ) (text : List ℕ) → is_first b ≡ true → token_of b text ≡ piece.Token (kind_of (take (prefix_len p text) text)) (prefix_len p text))
     → (k : Kind) (x : ℕ) (front back : List ℕ) → is_first x ≡ true → All (λ x. p x ≡ true) front → kind_of (x ∷ front) ≡ k → (b : ℕ) (bytes : List ℕ) → x ∷ front ++ back ≡ b ∷ bytes
     → Covers k (length (x ∷ front)) (token_of b (x ∷ front ++ back))
@@ -85,7 +85,7 @@ fits_as lexicon k l m n bytes e f =
     let en : m ≡ n = cc in
     subst (λ z. Fits lexicon z n bytes) ek (subst (λ z. Fits lexicon l z bytes) en f)
 
-pub no_gap_either : {Kind : Type 0} (t : Bool) (x y : Piece Kind) → IsNoGap x → IsNoGap y → IsNoGap (cond t x y)
+pub no_gap_either : {Kind : Type 0} (t : Bool) (x y : Lexeme Kind) → IsNoGap x → IsNoGap y → IsNoGap (cond t x y)
 no_gap_either true x y h k = h
 no_gap_either false x y h k = k
 
@@ -134,7 +134,7 @@ module _ {Kind Fault : Type 0} (lexicon : Lexicon Kind) (scanner : Scanner Kind 
       cc
 
   -- where no token begins, none is found
-  pub none_is : (b : ℕ) (bytes : List ℕ) → BeginsNone lexicon (b ∷ bytes) → (found : Piece Kind) → scanner.token_of b (b ∷ bytes) ≡ found → IsNoGap found → found ≡ piece.Bad
+  pub none_is : (b : ℕ) (bytes : List ℕ) → BeginsNone lexicon (b ∷ bytes) → (found : Lexeme Kind) → scanner.token_of b (b ∷ bytes) ≡ found → IsNoGap found → found ≡ piece.Bad
   none_is b bytes h piece.Bad e g = refl
   none_is b bytes h (piece.Token k n) e g = absurd (h k (take n (b ∷ bytes)) (drop n (b ∷ bytes)) (sym (take-append-drop n (b ∷ bytes))) (finds.fits b bytes k n e).spelled)
   none_is b bytes h (piece.Gap n) e g = absurd g

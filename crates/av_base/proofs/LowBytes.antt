@@ -7,8 +7,8 @@ use Rattle.std.specs.List.{list_all}
 use Rattle.std.proofs.lemmas.List.Elements.{All-weaker, All-cons}
 use Rattle.std.proofs.lemmas.List.Sums.{AllPass-from_list_all}
 use Rattle.std.proofs.lemmas.Str.Ascii.{IsAscii-from_all}
-use Rattle.av_base.specs.declared.piece.Piece.{Piece}
-use Rattle.av_base.specs.declared.piece.Piece.TheVariants as piece
+use Rattle.av_base.specs.declared.lexeme.Lexeme.{Lexeme}
+use Rattle.av_base.specs.declared.lexeme.Lexeme.TheVariants as piece
 use Rattle.av_base.specs.Lexicon.{Lexicon}
 use Rattle.av_base.specs.Reading.{Scanner, piece_by}
 use Rattle.av_base.specs.Tokens.{is_word_byte, IsWord, IsDigits}
@@ -58,11 +58,11 @@ digits_ascii (b ∷ bytes) w =
 -- ---- tokens
 
 -- what a token that is found is spelled as
-abbrev FoundSpelled : {Kind : Type 0} → Lexicon Kind → List ℕ → Piece Kind → Type 0
+abbrev FoundSpelled : {Kind : Type 0} → Lexicon Kind → List ℕ → Lexeme Kind → Type 0
 FoundSpelled lexicon bytes (piece.Token k n) = lexicon.IsSpelled k (take n bytes)
 FoundSpelled lexicon bytes _ = Unit {0}
 
-found_spelled : {Kind : Type 0} (lexicon : Lexicon Kind) {bytes : List ℕ} {found : Piece Kind} → IsPiece lexicon bytes found → FoundSpelled lexicon bytes found
+found_spelled : {Kind : Type 0} (lexicon : Lexicon Kind) {bytes : List ℕ} {found : Lexeme Kind} → IsPiece lexicon bytes found → FoundSpelled lexicon bytes found
 found_spelled lexicon (a_blank h) = tt
 found_spelled lexicon (a_comment s w c) = tt
 found_spelled lexicon (a_token h f) = f.longest.spelled

@@ -5,8 +5,8 @@ use Rattle.std.specs.List.{prefix_len}
 use Rattle.std.proofs.lemmas.Bool.{eqb-true}
 use Rattle.std.proofs.lemmas.List.Elements.{All-from_recursion, recursion_from_All}
 use Rattle.std.proofs.lemmas.List.Sums.{prefix_len-le-length}
-use Rattle.av_base.specs.declared.piece.Piece.{Piece}
-use Rattle.av_base.specs.declared.piece.Piece.TheVariants as piece
+use Rattle.av_base.specs.declared.lexeme.Lexeme.{Lexeme}
+use Rattle.av_base.specs.declared.lexeme.Lexeme.TheVariants as piece
 use Rattle.av_base.specs.Lexicon.{Lexicon, IsLongest, BeginsNone, is_blank, IsCommented, IsLineEnd, IsComment}
 use Rattle.av_base.specs.Reading.{piece_by, FitsIn, Scanner}
 use Rattle.av_base.specs.Spelling.{begins_comment}
@@ -17,7 +17,7 @@ use Rattle.av_base.proofs.Truths.{both}
 
 -- ---- what a piece says of the text
 
-pub data IsPiece {Kind : Type 0} (lexicon : Lexicon Kind) : List ℕ → Piece Kind → Type 0 where
+pub data IsPiece {Kind : Type 0} (lexicon : Lexicon Kind) : List ℕ → Lexeme Kind → Type 0 where
   a_blank : {b : ℕ} {bytes : List ℕ} → is_blank b ≡ true → IsPiece lexicon (b ∷ bytes) (piece.Gap 1)
   a_comment : {bytes : List ℕ} {n : ℕ} → 0 < n → n ≤ length bytes → IsComment lexicon.mark (take n bytes) (drop n bytes) → IsPiece lexicon bytes (piece.Gap n)
   a_token : {bytes : List ℕ} {k : Kind} {n : ℕ} → (IsCommented lexicon.mark bytes → ⊥) → Found lexicon k n bytes → IsPiece lexicon bytes (piece.Token k n)
@@ -69,12 +69,12 @@ module _ {Kind : Type 0} (lexicon : Lexicon Kind) (no_blank : is_blank lexicon.m
           rw len (a_comment {bytes = lexicon.mark ∷ lexicon.mark ∷ more} {n = suc (suc n)} (omega arith) (omega arith) (record { more = take n more; marked = refl; one_line = All-from_recursion (λ b. b ≢ 10) (take n more) (feeds (take n more) (run_all is_not_feed more)); stops = stops_at more }))
 
 module _ {Kind Fault : Type 0} (lexicon : Lexicon Kind) (scanner : Scanner Kind Fault) (finds : Finds lexicon scanner) where
-  piece_at : (b : ℕ) (bytes : List ℕ) (found : Piece Kind) → scanner.token_of b (b ∷ bytes) ≡ found → is_blank b ≡ false → (IsCommented lexicon.mark (b ∷ bytes) → ⊥) → IsPiece lexicon (b ∷ bytes) found
+  piece_at : (b : ℕ) (bytes : List ℕ) (found : Lexeme Kind) → scanner.token_of b (b ∷ bytes) ≡ found → is_blank b ≡ false → (IsCommented lexicon.mark (b ∷ bytes) → ⊥) → IsPiece lexicon (b ∷ bytes) found
   piece_at b bytes (piece.Token k n) e h c = a_token c (token_found lexicon scanner finds b bytes k n e)
   piece_at b bytes piece.Bad e h c = no_piece h c (token_none lexicon scanner finds b bytes e)
   piece_at b bytes (piece.Gap n) e h c = absurd (subst (λ z. IsNoGap z) e (finds.no_gap b (b ∷ bytes)))
 
-  pub is_piece : (b : ℕ) (bytes : List ℕ) (found : Piece Kind) → piece_by lexicon.mark scanner.token_of b (b ∷ bytes) ≡ found → IsPiece lexicon (b ∷ bytes) found
+  pub is_piece : (b : ℕ) (bytes : List ℕ) (found : Lexeme Kind) → piece_by lexicon.mark scanner.token_of b (b ∷ bytes) ≡ found → IsPiece lexicon (b ∷ bytes) found
   unfolding piece_by
   is_piece b bytes found e =
       elim (chosen (is_blank b) (piece.Gap 1) (cond (begins_comment lexicon.mark (b ∷ bytes)) (piece.Gap (prefix_len is_not_feed (b ∷ bytes))) (scanner.token_of b (b ∷ bytes))) found e) [
@@ -130,7 +130,7 @@ module _ {Kind Fault : Type 0} (lexicon : Lexicon Kind) (scanner : Scanner Kind 
 
 -- ---- what stands at an index fits there
 
-fits_in : {Kind : Type 0} {lexicon : Lexicon Kind} {bytes : List ℕ} {found : Piece Kind} → IsPiece lexicon bytes found → FitsIn found (length bytes)
+fits_in : {Kind : Type 0} {lexicon : Lexicon Kind} {bytes : List ℕ} {found : Lexeme Kind} → IsPiece lexicon bytes found → FitsIn found (length bytes)
 fits_in (a_blank h) = (omega arith, omega arith)
 fits_in (a_comment s w c) = (s, w)
 fits_in (a_token h f) = (f.some, f.within)

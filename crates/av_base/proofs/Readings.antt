@@ -3,8 +3,8 @@ use Rattle.std.proofs.Common.{◌≡◌, ℕ, zero, suc, ◌<◌, ◌≤◌, Boo
 use Rattle.std.proofs.Math.Seq.{take-append_seam, drop-append_seam}
 use Rattle.std.proofs.lemmas.List.{length-drop, take-append-drop, length-append}
 use Rattle.av_base.specs.declared.place.Place.{Place}
-use Rattle.av_base.specs.declared.piece.Piece.{Piece}
-use Rattle.av_base.specs.declared.piece.Piece.TheVariants as piece
+use Rattle.av_base.specs.declared.lexeme.Lexeme.{Lexeme}
+use Rattle.av_base.specs.declared.lexeme.Lexeme.TheVariants as piece
 use Rattle.av_base.specs.Lexicon.{Token, Lexicon, next_place, moved, IsLongest, BeginsNone, is_blank, IsCommented, IsComment, IsText, end, blank, comment, token, IsFault, bad_byte, number, past_blank, past_comment, past_token}
 use Rattle.av_base.specs.Reading.{piece_by, Scanner, Reading, with_token, read_by, read_of}
 use Rattle.av_base.specs.Reading.{Scanner, Reading, with_token, read_by, read_of}
@@ -60,7 +60,7 @@ module _ {Kind Fault : Type 0} (lexicon : Lexicon Kind) (scanner : Scanner Kind 
   -- ---- what is read is spelled
 
   module _ (n : ℕ) (p : Place) where
-    sound_by : (bytes : List ℕ) (found : Piece Kind) (tokens : List (Token Kind)) → IsPiece lexicon bytes found → read_by scanner (λ q rest. read_of lexicon scanner n q rest) p bytes found ≡ Ok tokens
+    sound_by : (bytes : List ℕ) (found : Lexeme Kind) (tokens : List (Token Kind)) → IsPiece lexicon bytes found → read_by scanner (λ q rest. read_of lexicon scanner n q rest) p bytes found ≡ Ok tokens
         → ((q : Place) (rest : List ℕ) (us : List (Token Kind)) → read_of lexicon scanner n q rest ≡ Ok us → IsText lexicon q rest us) → IsText lexicon p bytes tokens
     unfolding read_by
     sound_by bytes found tokens (a_blank {b = b} {bytes = rest} h) e ih = blank h (ih (next_place p b) rest tokens e)
@@ -76,7 +76,7 @@ module _ {Kind Fault : Type 0} (lexicon : Lexicon Kind) (scanner : Scanner Kind 
         ]
     sound_by bytes found tokens (no_piece h c f) e ih = absurd cc
 
-    fault_by : (bytes : List ℕ) (found : Piece Kind) (f : Fault) → length bytes ≤ suc n → IsPiece lexicon bytes found → read_by scanner (λ q rest. read_of lexicon scanner n q rest) p bytes found ≡ Err f
+    fault_by : (bytes : List ℕ) (found : Lexeme Kind) (f : Fault) → length bytes ≤ suc n → IsPiece lexicon bytes found → read_by scanner (λ q rest. read_of lexicon scanner n q rest) p bytes found ≡ Err f
         → ((q : Place) (rest : List ℕ) → length rest ≤ n → read_of lexicon scanner n q rest ≡ Err f → IsFault lexicon scanner.bad scanner.great q rest f) → IsFault lexicon scanner.bad scanner.great p bytes f
     unfolding read_by
     fault_by bytes found f l (a_blank {b = b} {bytes = rest} h) e ih = past_blank h (ih (next_place p b) rest (omega arith) e)
@@ -100,7 +100,7 @@ module _ {Kind Fault : Type 0} (lexicon : Lexicon Kind) (scanner : Scanner Kind 
   read_fault n p [] f l e = absurd cc
   read_fault zero p (b ∷ bytes) f l e = absurd (omega arith)
   read_fault (suc n) p (b ∷ bytes) f l e =
-      let found : Piece Kind = piece_by lexicon.mark scanner.token_of b (b ∷ bytes) in
+      let found : Lexeme Kind = piece_by lexicon.mark scanner.token_of b (b ∷ bytes) in
       fault_by n p (b ∷ bytes) found f l (is_piece lexicon scanner finds b bytes found refl) e (λ q rest w h. read_fault n q rest f w h)
 
   pub read_sound : (n : ℕ) (p : Place) (bytes : List ℕ) (tokens : List (Token Kind)) → read_of lexicon scanner n p bytes ≡ Ok tokens → IsText lexicon p bytes tokens
@@ -108,7 +108,7 @@ module _ {Kind Fault : Type 0} (lexicon : Lexicon Kind) (scanner : Scanner Kind 
   read_sound n p [] tokens e = subst (λ z. IsText lexicon p [] z) (ok_is {Fault = Fault} _ tokens e) end
   read_sound zero p (b ∷ bytes) tokens e = absurd cc
   read_sound (suc n) p (b ∷ bytes) tokens e =
-      let found : Piece Kind = piece_by lexicon.mark scanner.token_of b (b ∷ bytes) in
+      let found : Lexeme Kind = piece_by lexicon.mark scanner.token_of b (b ∷ bytes) in
       sound_by n p (b ∷ bytes) found tokens (is_piece lexicon scanner finds b bytes found refl) e (λ q rest us h. read_sound n q rest us h)
 
   -- ---- what is spelled is read

@@ -1,19 +1,19 @@
 -- The symbol at the front of a text, of two bytes where there is one of two.
 use Rattle.std.proofs.Common.{◌≡◌, ℕ, Bool, true, false, cond, List, [], ◌∷◌, ◌++◌, length, refl, subst, ◌∙◌, arith, inl, inr}
-use Rattle.av_base.specs.declared.piece.Piece.{Piece}
-use Rattle.av_base.specs.declared.piece.Piece.TheVariants as piece
+use Rattle.av_base.specs.declared.lexeme.Lexeme.{Lexeme}
+use Rattle.av_base.specs.declared.lexeme.Lexeme.TheVariants as piece
 use Rattle.av_base.specs.Lexicon.{Lexicon}
 use Rattle.av_base.specs.Reading.{begins_pair, symbol_by}
 use Rattle.av_base.proofs.Longest.{Covers, Fits, fits_as}
 use Rattle.av_base.proofs.Runs.{chosen}
 use Rattle.av_base.proofs.Tables.{IsShort, one, two}
 
-one_or_two : {Kind : Type 0} (symbol : Kind) (t : Bool) (found : Piece Kind) → found ≡ cond t (piece.Token symbol 2) (piece.Token symbol 1) → Covers symbol 1 found
+one_or_two : {Kind : Type 0} (symbol : Kind) (t : Bool) (found : Lexeme Kind) → found ≡ cond t (piece.Token symbol 2) (piece.Token symbol 1) → Covers symbol 1 found
 one_or_two symbol true found h = record { kind = symbol; len' = 2; is = h; no_less = omega arith; same = λ e. absurd (omega arith) }
 one_or_two symbol false found h = record { kind = symbol; len' = 1; is = h; no_less = omega arith; same = λ e. refl }
 
 -- a symbol is covered by the one that is found
-pub symbol_covers : {Kind : Type 0} (symbol : Kind) (is_first is_single : ℕ → Bool) (is_pair : ℕ → ℕ → Bool) (token_of : ℕ → List ℕ → Piece Kind)
+pub symbol_covers : {Kind : Type 0} (symbol : Kind) (is_first is_single : ℕ → Bool) (is_pair : ℕ → ℕ → Bool) (token_of : ℕ → List ℕ → Lexeme Kind)
     → ((b : ℕ) (bytes : List ℕ) → is_first b ≡ true → token_of b (b ∷ bytes) ≡ symbol_by symbol is_single is_pair b (b ∷ bytes))
     → (front back : List ℕ) → IsShort is_first is_single is_pair front → (b : ℕ) (bytes : List ℕ) → front ++ back ≡ b ∷ bytes → Covers symbol (length front) (token_of b (front ++ back))
 symbol_covers symbol is_first is_single is_pair token_of other front back (one {b = x} o s) b bytes e =
@@ -33,7 +33,7 @@ symbol_fits {Kind = Kind} lexicon symbol is_single is_pair single pair b bytes k
       | inl p ↦ fits_as lexicon k symbol 2 n (b ∷ bytes) p.1 (pair_fits bytes p.0)
       | inr p ↦ elim (chosen (is_single b) (piece.Token symbol 1) piece.Bad (piece.Token k n) p.1) [
         | inl q ↦ fits_as lexicon k symbol 1 n (b ∷ bytes) q.1 (record { spelled = single b q.0; some = omega arith; within = omega arith })
-        | inr q ↦ absurd (let z : ◌≡◌ {A = Piece Kind} piece.Bad (piece.Token k n) = q.1 in cc)
+        | inr q ↦ absurd (let z : ◌≡◌ {A = Lexeme Kind} piece.Bad (piece.Token k n) = q.1 in cc)
       ]
     ]
   where

@@ -2,8 +2,8 @@
 use Rattle.std.proofs.Common.{◌≡◌, ℕ, zero, suc, ◌+◌, ◌-◌, ◌<◌, ◌≤◌, true, false, List, [], ◌∷◌, ◌++◌, length, take, drop, get_or, Ok, Err, refl, sym, ap, subst, ◌∙◌, arith, append_assoc, drop-cons}
 use Rattle.std.proofs.lemmas.List.{length-drop, drop-drop, nil_from_length}
 use Rattle.av_base.specs.declared.place.Place.{Place}
-use Rattle.av_base.specs.declared.piece.Piece.{Piece}
-use Rattle.av_base.specs.declared.piece.Piece.TheVariants as piece
+use Rattle.av_base.specs.declared.lexeme.Lexeme.{Lexeme}
+use Rattle.av_base.specs.declared.lexeme.Lexeme.TheVariants as piece
 use Rattle.av_base.specs.Lexicon.{Token, Lexicon, start, moved}
 use Rattle.av_base.specs.Reading.{piece_by, FitsIn, Scanner, Reading, with_token, read_by, read_of}
 use Rattle.av_base.specs.Reading.{Scanner, Reading, with_token, read_by, read_of}
@@ -39,7 +39,7 @@ module _ {Kind Fault : Type 0} (lexicon : Lexicon Kind) (scanner : Scanner Kind 
     here = drop-cons bytes at 0 lt
 
     -- what one step of the reader gives
-    step : (m : ℕ) (p : Piece Kind) → p ≡ piece_by lexicon.mark scanner.token_of (get_or bytes at 0) (drop at bytes)
+    step : (m : ℕ) (p : Lexeme Kind) → p ≡ piece_by lexicon.mark scanner.token_of (get_or bytes at 0) (drop at bytes)
         → read_of lexicon scanner (suc m) place (drop at bytes) ≡ read_by scanner (λ q r. read_of lexicon scanner m q r) place (drop at bytes) p
     unfolding read_of
     step m p e =

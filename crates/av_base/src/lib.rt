@@ -5,11 +5,11 @@
 mod copy;
 mod decimal;
 mod honest;
+mod lexeme;
 pub mod limits;
 mod list;
 mod memory;
 mod name;
-mod piece;
 mod place;
 mod places;
 mod point;
@@ -23,10 +23,10 @@ mod word;
 
 pub use decimal::decimal_value;
 pub use honest::{HonestSink, HonestSource};
+pub use lexeme::{Lexeme, begins_comment};
 pub use list::List;
 pub use memory::Memory;
 pub use name::Name;
-pub use piece::{Piece, begins_comment};
 pub use place::Place;
 pub use places::{moved, part};
 pub use point::Point;

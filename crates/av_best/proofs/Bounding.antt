@@ -17,7 +17,7 @@ use Rattle.av_sched.specs.Arcs.{at, Solves, IsLeastSolution}
 use Rattle.av_sched.specs.Parts.{Agrees}
 use Rattle.av_sched.specs.Witnesses.{IsWitnessArc}
 use Rattle.av_sched.proofs.Witnesses.{late_there, witnesses_fit}
-use Rattle.av_best.specs.declared.span.Span.{Span}
+use Rattle.av_best.specs.declared.span.PartSpan.{PartSpan}
 use Rattle.av_best.specs.Least.{all_nodes}
 use Rattle.av_best.specs.inner.Spans.{AreSpanned, AreLows, IsLeastAbove}
 use Rattle.av_best.specs.inner.Joint.{IsForbidden, IsBound}
@@ -27,7 +27,7 @@ abbrev pub feasible_of : (s : FlatSystem) (component : List ℕ) (linear : List 
 feasible_of s component linear off h = (at off, λ n z k y pair a b. h.later n z k y pair)
 
 module _ (s : FlatSystem) (edges : List Edge) (k : ℕ) (linear : List Point) (chained : IsChained s) (are : AreEdgesOf s edges) (few : k ≤ length (nodes s)) (arcs : List Arc)
-    (witnesses : All (IsWitnessArc edges (all_nodes s) k linear) arcs) (spans : List Span) (spanned : AreSpanned s k linear spans) (low : List ℤ) (lows : AreLows k spans low) (d : Span) where
+    (witnesses : All (IsWitnessArc edges (all_nodes s) k linear) arcs) (spans : List PartSpan) (spanned : AreSpanned s k linear spans) (low : List ℤ) (lows : AreLows k spans low) (d : PartSpan) where
   -- offsets of a schedule with the first parts satisfy the arcs of the places
   pub solves_there : (other : List Point) (off : List ℤ) → Agrees (all_nodes s) k linear other → AreOffsets s other off → Solves arcs low (take k off)
   solves_there other off agrees h = record {

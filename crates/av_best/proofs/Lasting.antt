@@ -9,14 +9,14 @@ use Rattle.av_flat.specs.declared.timed.Time.{Time}
 use Rattle.av_sched.proofs.Listing.{get_push, get_last}
 use Rattle.av_sched.proofs.Steps.{take_more}
 use Rattle.av_base.proofs.Lists.{same_default}
-use Rattle.av_best.specs.declared.span.Span.{Span}
+use Rattle.av_best.specs.declared.span.PartSpan.{PartSpan}
 use Rattle.av_best.specs.inner.Spans.{AreLows, AreSmallSpans, last_of, IsLeastAbove}
 
-pub above_none : (off : List ℤ) (spans : List Span) → IsLeastAbove off spans 0 0
+pub above_none : (off : List ℤ) (spans : List PartSpan) → IsLeastAbove off spans 0 0
 above_none off spans = record { above = λ j d l. absurd (omega (arith, l)); reached = inl refl }
 
 -- one node more, whose last cycle is below t
-pub above_more : (off : List ℤ) (spans : List Span) (j m t : ℕ) (o : ℤ) (span e : Span) → j < length spans → span ≡ get_or spans j e → o ≡ at off j → ((o +ℤ span.high) <ℤ pos t) → ((t ≡ 0) ⊎ ((o +ℤ span.high) +ℤ pos 1 ≡ pos t))
+pub above_more : (off : List ℤ) (spans : List PartSpan) (j m t : ℕ) (o : ℤ) (span e : PartSpan) → j < length spans → span ≡ get_or spans j e → o ≡ at off j → ((o +ℤ span.high) <ℤ pos t) → ((t ≡ 0) ⊎ ((o +ℤ span.high) +ℤ pos 1 ≡ pos t))
     → IsLeastAbove off spans j m → IsLeastAbove off spans (j + 1) (max m t)
 above_more off spans j m t o span e l is at_is below reached h = record {
   above = λ i d k. ⊎_elim
@@ -34,13 +34,13 @@ above_more off spans j m t o span e l is at_is below reached h = record {
       (cases_lt m t);
 }
   where
-    here : (d : Span) → last_of off spans j d ≡ o +ℤ span.high
-    here d = let q : get_or spans j d ≡ span = same_default spans j d e l ∙ sym is in ap (λ (s : Span). at off j +ℤ s.high) q ∙ ap (λ x. x +ℤ span.high) (sym at_is)
+    here : (d : PartSpan) → last_of off spans j d ≡ o +ℤ span.high
+    here d = let q : get_or spans j d ≡ span = same_default spans j d e l ∙ sym is in ap (λ (s : PartSpan). at off j +ℤ s.high) q ∙ ap (λ x. x +ℤ span.high) (sym at_is)
 
-pub lows_none : (spans : List Span) (off : List ℤ) → off ≡ [] → AreLows 0 spans off
+pub lows_none : (spans : List PartSpan) (off : List ℤ) → off ≡ [] → AreLows 0 spans off
 lows_none spans off e = record { one_each = ap length e; each = λ j d l. absurd (omega (arith, l)) }
 
-pub lows_more : (k : ℕ) (spans : List Span) (off : List ℤ) (x : ℤ) (span e : Span) → k < length spans → span ≡ get_or spans k e → x ≡ neg_ℤ span.low → AreLows k spans off → AreLows (k + 1) spans (off ++ x ∷ [])
+pub lows_more : (k : ℕ) (spans : List PartSpan) (off : List ℤ) (x : ℤ) (span e : PartSpan) → k < length spans → span ≡ get_or spans k e → x ≡ neg_ℤ span.low → AreLows k spans off → AreLows (k + 1) spans (off ++ x ∷ [])
 lows_more k spans off x span e l is low h = record {
   one_each = (let a = length-append off (x ∷ []) in let z = h.one_each in omega (arith, a, z));
   each = λ j d m. ⊎_elim
@@ -48,14 +48,14 @@ lows_more k spans off x span e l is low h = record {
       let one = h.one_each in
       let a : at (off ++ x ∷ []) j ≡ x = ap (at (off ++ x ∷ [])) (q ∙ sym one) ∙ get_last off x (pos 0) in
       let b : get_or spans j d ≡ span = ap (λ (n : ℕ). get_or spans n d) q ∙ same_default spans k d e l ∙ sym is in
-      a ∙ low ∙ ap (λ (s : Span). neg_ℤ s.low) (sym b))
+      a ∙ low ∙ ap (λ (s : PartSpan). neg_ℤ s.low) (sym b))
       (λ q.
       let i : j < k = omega (arith, m, q) in
       get_push off x (pos 0) j (let one = h.one_each in omega (arith, i, one)) ∙ h.each j d i)
       (cases_eq j k);
 }
 
-pub lows_small : (k : ℕ) (spans : List Span) (off : List ℤ) (d : Span) → AreSmallSpans k spans → AreLows k spans off → AreSmall 1073741824 off
+pub lows_small : (k : ℕ) (spans : List PartSpan) (off : List ℤ) (d : PartSpan) → AreSmallSpans k spans → AreLows k spans off → AreSmall 1073741824 off
 lows_small k spans off d small h = λ j e l.
     let m : j < k = (let one = h.one_each in omega (arith, l, one)) in
     let a : at off j ≡ neg_ℤ (get_or spans j d).low = h.each j d m in

@@ -16,7 +16,7 @@ use Rattle.av_sched.proofs.Walking.{not_before}
 use Rattle.av_sched.proofs.Tries.{not_itself, not_both, cost_length}
 use Rattle.av_sched.proofs.Pricing.{dear_later}
 use Rattle.av_best.specs.declared.best.Best.{Best}
-use Rattle.av_best.specs.declared.span.Span.{Span}
+use Rattle.av_best.specs.declared.span.PartSpan.{PartSpan}
 use Rattle.av_best.specs.Lengths.{HasLength}
 use Rattle.av_best.specs.Least.{all_nodes}
 use Rattle.av_best.specs.inner.Spans.{AreSpanned, AreLows, IsLeastAbove}
@@ -35,7 +35,7 @@ length_least s linear off (suc x) n least h f =
     let r = h.reached in
     omega (arith, ints, b, before, r)
 
-module _ (s : FlatSystem) (linear : List Point) (spans : List Span) (spanned : AreSpanned s (length (all_nodes s)) linear spans) (d : Span) where
+module _ (s : FlatSystem) (linear : List Point) (spans : List PartSpan) (spanned : AreSpanned s (length (all_nodes s)) linear spans) (d : PartSpan) where
   node_in : (n : ℕ) (z : Point) → IsComputation s n z → n < length (all_nodes s)
   node_in n z i = let l = slice_get_within (nodes s) n i.variable i.is in let e = as_many s in omega (arith, l, e)
 

@@ -24,7 +24,7 @@ use Rattle.av_sched.proofs.Starting.{node_has_point}
 use Rattle.av_base.proofs.Lists.{all_at, some_is, same_default, there_is}
 use Rattle.av_sched.proofs.Steps.{take_more}
 use Rattle.av_sched.proofs.Listing.{get_push, get_last}
-use Rattle.av_best.specs.declared.span.Span.{Span}
+use Rattle.av_best.specs.declared.span.PartSpan.{PartSpan}
 use Rattle.av_best.specs.inner.Spans.{IsSpanOver, IsSpanAt, ArePointsOf, AreSpansAt, AreSpansTo, AreSpanned, AreSmallSpans}
 
 -- ---- points
@@ -68,7 +68,7 @@ module _ (s : FlatSystem) (n : ℕ) (v : Variable) (chained : IsChained s) (is :
 
 -- ---- spans
 
-pub span_at : (s : FlatSystem) (n : ℕ) (points : List Point) (a : Point) (span : Span) → ArePointsOf s n points → IsSpanOver points a span → IsSpanAt s n a span
+pub span_at : (s : FlatSystem) (n : ℕ) (points : List Point) (a : Point) (span : PartSpan) → ArePointsOf s n points → IsSpanOver points a span → IsSpanAt s n a span
 span_at s n points a span are h =
     let (i, p, l, at, low) = h.low_taken in
     let (j, q, m, bt, high) = h.high_taken in
@@ -133,7 +133,7 @@ span_more points a k low high x p l e f small h =
       high_small = (let s = h.high_small in omega (arith, ints, clamps, s, small));
     }
 
-pub span_of_all : (points : List Point) (a : Point) (k : ℕ) (span : Span) → length points ≤ k → IsSpanSoFar points a k span.low span.high → IsSpanOver points a span
+pub span_of_all : (points : List Point) (a : Point) (k : ℕ) (span : PartSpan) → length points ≤ k → IsSpanSoFar points a k span.low span.high → IsSpanOver points a span
 span_of_all points a k span over h = record {
   low_below = λ i d l. h.low_below i d (omega (arith, l, over));
   low_taken = h.low_taken;
@@ -149,7 +149,7 @@ module _ (s : FlatSystem) where
   pub spans_none : (n : ℕ) → AreSpansAt s n [] []
   spans_none n = record { one_each = refl; each = λ i d l. absurd (omega (arith, l)) }
 
-  pub spans_more : (n i : ℕ) (parts : List Point) (spans : List Span) (a : Point) (span : Span) → i < length parts → a ≡ get_or parts i a → IsSpanAt s n a span → AreSpansAt s n (take i parts) spans → AreSpansAt s n (take (i + 1) parts) (spans ++ span ∷ [])
+  pub spans_more : (n i : ℕ) (parts : List Point) (spans : List PartSpan) (a : Point) (span : PartSpan) → i < length parts → a ≡ get_or parts i a → IsSpanAt s n a span → AreSpansAt s n (take i parts) spans → AreSpansAt s n (take (i + 1) parts) (spans ++ span ∷ [])
   spans_more n i parts spans a span l is own h = subst (λ (xs : List Point). AreSpansAt s n xs (spans ++ span ∷ [])) (sym (take_more parts i a a l is refl)) (record {
     one_each = (let x = length-append spans (span ∷ []) in let y = length-append (take i parts) (a ∷ []) in let z = h.one_each in omega (arith, x, y, z));
     each = λ j d m. ⊎_elim
@@ -165,7 +165,7 @@ module _ (s : FlatSystem) where
         (cases_eq j (length (take i parts)));
   })
 
-  pub lists_spanned : (k : ℕ) (lists : List (List Point)) (spans : List (List Span)) (list : List Point) (new : List Span) → k < length lists → list ≡ slice_index_or lists k list → AreSpansAt s k list new → AreSpansTo s k lists spans
+  pub lists_spanned : (k : ℕ) (lists : List (List Point)) (spans : List (List PartSpan)) (list : List Point) (new : List PartSpan) → k < length lists → list ≡ slice_index_or lists k list → AreSpansAt s k list new → AreSpansTo s k lists spans
       → AreSpansTo s (k + 1) lists (spans ++ new ∷ [])
   lists_spanned k lists spans list new l is own h = record {
     one_each = (let x = length-append spans (new ∷ []) in let z = h.one_each in omega (arith, x, z));
@@ -179,30 +179,30 @@ module _ (s : FlatSystem) where
         (cases_eq j k);
   }
 
-  pub span_there : (n : ℕ) (list items : List Point) (own spans : List Span) (i : ℕ) (p v : Point) → AreSpansAt s n list own → items ≡ list → spans ≡ own → i < length items → p ≡ get_or items i p → v ≡ p → (d : Span) → IsSpanAt s n v (get_or spans i d)
+  pub span_there : (n : ℕ) (list items : List Point) (own spans : List PartSpan) (i : ℕ) (p v : Point) → AreSpansAt s n list own → items ≡ list → spans ≡ own → i < length items → p ≡ get_or items i p → v ≡ p → (d : PartSpan) → IsSpanAt s n v (get_or spans i d)
   span_there n list items own spans i p v h e f l is same d =
       let l' : i < length list = subst (λ (xs : List Point). i < length xs) e l in
       let t = h.each i d l' in
       let at : v ≡ slice_index_or list i [] = same ∙ is ∙ same_default items i p [] l ∙ ap (λ xs. slice_index_or xs i []) e in
-      subst (λ (xs : List Span). IsSpanAt s n v (get_or xs i d)) (sym f) (subst (λ (a : Point). IsSpanAt s n a (slice_index_or own i d)) (sym at) t)
+      subst (λ (xs : List PartSpan). IsSpanAt s n v (get_or xs i d)) (sym f) (subst (λ (a : Point). IsSpanAt s n a (slice_index_or own i d)) (sym at) t)
 
 -- one node more
-pub spanned_push : (s : FlatSystem) (k : ℕ) (linear : List Point) (spans : List Span) (span : Span) → length spans ≡ k → IsSpanAt s k (part linear k) span → AreSpanned s k linear spans → AreSpanned s (k + 1) linear (spans ++ span ∷ [])
+pub spanned_push : (s : FlatSystem) (k : ℕ) (linear : List Point) (spans : List PartSpan) (span : PartSpan) → length spans ≡ k → IsSpanAt s k (part linear k) span → AreSpanned s k linear spans → AreSpanned s (k + 1) linear (spans ++ span ∷ [])
 spanned_push s k linear spans span many own h = record {
   within = (let x = length-append spans (span ∷ []) in omega (arith, x, many));
   each = λ j d m. ⊎_elim
       (λ q.
       let at : get_or (spans ++ span ∷ []) j d ≡ span = ap (λ (n : ℕ). get_or (spans ++ span ∷ []) n d) (q ∙ sym many) ∙ get_last spans span d in
-      subst (λ (t : Span). IsSpanAt s j (part linear j) t) (sym at) (subst (λ (n : ℕ). IsSpanAt s n (part linear n) span) (sym q) own))
+      subst (λ (t : PartSpan). IsSpanAt s j (part linear j) t) (sym at) (subst (λ (n : ℕ). IsSpanAt s n (part linear n) span) (sym q) own))
       (λ q.
       let l : j < k = omega (arith, m, q) in
-      subst (λ (t : Span). IsSpanAt s j (part linear j) t) (sym (get_push spans span d j (omega (arith, l, many)))) (h.each j d l))
+      subst (λ (t : PartSpan). IsSpanAt s j (part linear j) t) (sym (get_push spans span d j (omega (arith, l, many)))) (h.each j d l))
       (cases_eq j k);
 }
 
 -- ---- small numbers
 
-pub small_spans : (s : FlatSystem) (k : ℕ) (linear : List Point) (spans : List Span) → AreSpanned s k linear spans → AreSmallSpans k spans
+pub small_spans : (s : FlatSystem) (k : ℕ) (linear : List Point) (spans : List PartSpan) → AreSpanned s k linear spans → AreSmallSpans k spans
 small_spans s k linear spans h = λ j d l. ((h.each j d l).low_small, (h.each j d l).high_small)
 
 pub part_small : (s : FlatSystem) (c n : ℕ) (v : Variable) (a : Point) → IsChained s → c ≤ 4 → slice_get (nodes s) n ≡ Some v → IsLinearPart c v.domain.dim a → IsSmallPart (length a) a

@@ -17,7 +17,7 @@ use Rattle.av_sched.proofs.Pricing.{spent_next}
 use Rattle.av_sched.proofs.Steps.{set_set}
 use Rattle.av_base.proofs.Lists.{there_is}
 use Rattle.av_best.specs.declared.best.Best.{Best}
-use Rattle.av_best.specs.declared.span.Span.{Span}
+use Rattle.av_best.specs.declared.span.PartSpan.{PartSpan}
 use Rattle.av_best.specs.Least.{all_nodes}
 use Rattle.av_best.specs.inner.Spans.{IsSpanAt, AreSpanned}
 use Rattle.av_best.specs.inner.Joint.{IsSound, IsBarred, HasWalked, HasTried}
@@ -103,17 +103,17 @@ module _ (s : FlatSystem) (c k : ℕ) (fits : k < length (nodes s)) where
 -- ---- spans
 
 -- the spans of the first parts stay where those parts stay
-pub spanned_same : (s : FlatSystem) (k : ℕ) (a b : List Point) (spans : List Span) → ((j : ℕ) → j < k → part a j ≡ part b j) → AreSpanned s k a spans → AreSpanned s k b spans
+pub spanned_same : (s : FlatSystem) (k : ℕ) (a b : List Point) (spans : List PartSpan) → ((j : ℕ) → j < k → part a j ≡ part b j) → AreSpanned s k a spans → AreSpanned s k b spans
 spanned_same s k a b spans same h = record { within = h.within; each = λ j d l. subst (λ (p : Point). IsSpanAt s j p (slice_index_or spans j d)) (same j l) (h.each j d l) }
 
-pub spanned_less : (s : FlatSystem) (k : ℕ) (linear : List Point) (spans : List Span) → AreSpanned s (suc k) linear spans → AreSpanned s k linear spans
+pub spanned_less : (s : FlatSystem) (k : ℕ) (linear : List Point) (spans : List PartSpan) → AreSpanned s (suc k) linear spans → AreSpanned s k linear spans
 spanned_less s k linear spans h = record { within = (let w = h.within in omega (arith, w)); each = λ j d l. h.each j d (omega (arith, l)) }
 
 pub set_first : (linear : List Point) (k : ℕ) (v : Point) (j : ℕ) → j < k → part (slice_set linear k v) j ≡ part linear j
 set_first linear k v j l = get_or-set_other linear k j v [] (λ e. omega (arith, e, l))
 
 -- with the next part and its span
-pub spanned_more : (s : FlatSystem) (k : ℕ) (linear : List Point) (spans : List Span) (v : Point) (span : Span) → k < length linear → k < length spans → IsSpanAt s k v span → AreSpanned s k linear spans
+pub spanned_more : (s : FlatSystem) (k : ℕ) (linear : List Point) (spans : List PartSpan) (v : Point) (span : PartSpan) → k < length linear → k < length spans → IsSpanAt s k v span → AreSpanned s k linear spans
     → AreSpanned s (suc k) (slice_set linear k v) (slice_set spans k span)
 spanned_more s k linear spans v span l m is h = record {
   within = (let e = length-set spans k span in omega (arith, e, m));
@@ -122,23 +122,23 @@ spanned_more s k linear spans v span l m is h = record {
       let a : part (slice_set linear k v) j ≡ v = ap (part (slice_set linear k v)) q ∙ get_or-set_same linear k v [] l in
       let b : get_or (slice_set spans k span) j d ≡ span = ap (λ (n : ℕ). get_or (slice_set spans k span) n d) q ∙ get_or-set_same spans k span d m in
       subst (λ (p : Point). IsSpanAt s j p (get_or (slice_set spans k span) j d)) (sym a)
-      (subst (λ (t : Span). IsSpanAt s j v t) (sym b) (subst (λ (n : ℕ). IsSpanAt s n v span) (sym q) is)))
+      (subst (λ (t : PartSpan). IsSpanAt s j v t) (sym b) (subst (λ (n : ℕ). IsSpanAt s n v span) (sym q) is)))
       (λ q.
       let a = get_or-set_other linear k j v [] q in
       let b : get_or (slice_set spans k span) j d ≡ get_or spans j d = get_or-set_other spans k j span d q in
       subst (λ (p : Point). IsSpanAt s j p (get_or (slice_set spans k span) j d)) (sym a)
-      (subst (λ (t : Span). IsSpanAt s j (part linear j) t) (sym b) (h.each j d (omega (arith, i, q)))))
+      (subst (λ (t : PartSpan). IsSpanAt s j (part linear j) t) (sym b) (h.each j d (omega (arith, i, q)))))
       (cases_eq j k);
 }
 
 -- the spans of the first parts go with each choice in the loop
-pub spanned_now : (s : FlatSystem) (c k : ℕ) (start now tried : List Point) (old new : Option Best) (spans : List Span) → IsWalking s c k start now tried old new → AreSpanned s k start spans → AreSpanned s k now spans
+pub spanned_now : (s : FlatSystem) (c k : ℕ) (start now tried : List Point) (old new : Option Best) (spans : List PartSpan) → IsWalking s c k start now tried old new → AreSpanned s k start spans → AreSpanned s k now spans
 spanned_now s c k start now tried old new spans h spanned =
     spanned_same s k start now spans
     (λ j l. ap (λ xs. part xs j) (sym h.back) ∙ set_first now k (part start k) j l) spanned
 
 -- and back
-pub spanned_back : (s : FlatSystem) (c k : ℕ) (start now tried : List Point) (old new : Option Best) (spans : List Span) → IsWalking s c k start now tried old new → AreSpanned s k now spans → AreSpanned s k start spans
+pub spanned_back : (s : FlatSystem) (c k : ℕ) (start now tried : List Point) (old new : Option Best) (spans : List PartSpan) → IsWalking s c k start now tried old new → AreSpanned s k now spans → AreSpanned s k start spans
 spanned_back s c k start now tried old new spans h spanned =
     spanned_same s k now start spans
     (λ j l. sym (set_first now k (part start k) j l) ∙ ap (λ xs. part xs j) h.back) spanned

@@ -12,11 +12,11 @@ ghost use Rattle.av_best.specs.Least.{all_nodes};
 ghost use Rattle.av_best.specs.inner.Spans.{AreSpanned, IsLeastAbove, AreLows, AreSmallSpans};
 ghost use Rattle.av_best.specs.inner.Joint.{IsBounded};
 
-use crate::span::Span;
+use crate::span::PartSpan;
 use av_base::{Memory, Point};
 use av_depend::Edge;
 use av_flat::{Flat, Reach};
-use av_sched::{Room, Witness, raise_to_least, witness_arcs};
+use av_sched::{Scratch, Witness, raise_to_least, witness_arcs};
 
 // The number of cycles up to the last one of a node.
 fn through(offset: i64, high: i64) -> u64
@@ -28,7 +28,7 @@ fn through(offset: i64, high: i64) -> u64
 }
 
 /// The least number above the last cycles of the first nodes.
-pub(crate) fn least_above(offsets: &[i64], spans: &[Span], many: usize) -> u64
+pub(crate) fn least_above(offsets: &[i64], spans: &[PartSpan], many: usize) -> u64
     requires offsets { many ≤ length offsets.now }
     requires spans { many ≤ length spans.now }
     ensures { IsLeastAbove offsets.now spans.now many result }
@@ -49,7 +49,11 @@ fn turned(low: i64) -> i64
 }
 
 /// Sets the offsets with which the first cycles of the first nodes are 0.
-pub(crate) fn set_starts(spans: &[Span], many: usize, offsets: &mut Vec<i64>) -> Result<(), Memory>
+pub(crate) fn set_starts(
+    spans: &[PartSpan],
+    many: usize,
+    offsets: &mut Vec<i64>,
+) -> Result<(), Memory>
     requires spans { many ≤ length spans.now }
     requires small { AreSmallSpans many spans.now }
     ensures { IfOk result (λ done. AreLows many spans.now offsets.new.items) }
@@ -70,9 +74,9 @@ pub(crate) fn bound(
     nodes: &[u32],
     level: usize,
     linear: &[Point],
-    spans: &[Span],
+    spans: &[PartSpan],
     pool: &[Witness],
-    room: &mut Room,
+    scratch: &mut Scratch,
 ) -> Result<Option<u64>, Memory>
     requires chained { IsChained (view_system _flat.now) }
     requires proper { IsProper (view_system _flat.now) }
@@ -85,10 +89,10 @@ pub(crate) fn bound(
     requires pool { All (IsWitness edges.now nodes.now) pool.now }
     ensures { IfOk result (IsBounded (view_system _flat.now) _reach.size level linear.now) }
 {
-    witness_arcs(edges, nodes, level, linear, pool, &mut room.arcs)?;
-    set_starts(spans, level, &mut room.off)?;
-    if !raise_to_least(&room.arcs, &mut room.off, &mut room.old)? {
+    witness_arcs(edges, nodes, level, linear, pool, &mut scratch.arcs)?;
+    set_starts(spans, level, &mut scratch.off)?;
+    if !raise_to_least(&scratch.arcs, &mut scratch.off, &mut scratch.old)? {
         return Ok(None);
     }
-    Ok(Some(least_above(&room.off, spans, level)))
+    Ok(Some(least_above(&scratch.off, spans, level)))
 }

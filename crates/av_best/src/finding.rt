@@ -13,23 +13,23 @@ ghost use Rattle.av_best.specs.declared.fault.BestFault.TheVariants as fault;
 use crate::best::Best;
 use crate::fault::BestFault;
 use crate::joint::{all_nodes, joint_number};
-use crate::span::{Span, spans_of};
+use crate::span::{PartSpan, spans_of};
 use crate::stuck::fault_of;
 use crate::walk::walk;
 use av_base::limits::MOST_CANDIDATES;
 use av_base::{Memory, Point};
 use av_depend::Edge;
 use av_flat::{Flat, Reach, Timed};
-use av_sched::{Price, Room, first_parts, plan_of, timed_of};
+use av_sched::{Price, Scratch, first_parts, plan_of, timed_of};
 use std::alloc::Global;
 
 // As many spans as nodes, to be written over.
-fn blank_spans(alloc: Global, many: usize) -> Result<Vec<Span>, Memory>
+fn blank_spans(alloc: Global, many: usize) -> Result<Vec<PartSpan>, Memory>
     ensures { IfOk result (λ spans. length spans.items ≡ many) }
 {
     let mut spans = Vec::new(alloc);
     for _k in 0..many {
-        spans.push(Span { low: 0, high: 0 })?;
+        spans.push(PartSpan { low: 0, high: 0 })?;
     }
     Ok(spans)
 }
@@ -54,7 +54,7 @@ fn best_of_all(
     let mut linear = first_parts(alloc, flat, reach)?;
     let mut spans = blank_spans(alloc, nodes.len())?;
     let mut pool = Vec::new(alloc);
-    let mut room = Room {
+    let mut scratch = Scratch {
         arcs: Vec::new(alloc),
         off: Vec::new(alloc),
         old: Vec::new(alloc),
@@ -73,7 +73,7 @@ fn best_of_all(
         &mut linear,
         &mut spans,
         &mut pool,
-        &mut room,
+        &mut scratch,
         None,
     )
 }

@@ -20,13 +20,13 @@ use std::alloc::Global;
 
 // The least and the greatest value of a linear part over the points of a node.
 #[derive(Clone, Copy, Debug)]
-pub(crate) struct Span {
+pub(crate) struct PartSpan {
     pub low: i64,
     pub high: i64,
 }
 
 /// The span of a part over listed points.
-pub(crate) fn span_over(points: &[Point], part: &Point) -> Span
+pub(crate) fn span_over(points: &[Point], part: &Point) -> PartSpan
     requires some { 0 < length points.now }
     requires part { IsSmallPart (length part.now) part.now }
     requires points { All (IsSmallPoint (length part.now)) points.now }
@@ -40,7 +40,7 @@ pub(crate) fn span_over(points: &[Point], part: &Point) -> Span
         low = low.min(value);
         high = high.max(value);
     }
-    Span { low, high }
+    PartSpan { low, high }
 }
 
 /// Points of a node by which every linear part can be judged.
@@ -64,7 +64,7 @@ fn spans_at(
     _node: usize,
     points: &[Point],
     parts: &[Point],
-) -> Result<List<Span>, Memory>
+) -> Result<List<PartSpan>, Memory>
     requires points { ArePointsOf (view_system _flat.now) _node points.now }
     requires parts { All (λ a. IsSmallPart (length a) a) parts.now }
     requires fits { All (λ a. All (IsSmallPoint (length a)) points.now) parts.now }
@@ -84,7 +84,7 @@ pub(crate) fn spans_of(
     _reach: Reach,
     nodes: &[u32],
     lists: &[List<Point>],
-) -> Result<List<List<Span>>, Memory>
+) -> Result<List<List<PartSpan>>, Memory>
     requires chained { IsChained (view_system flat.now) }
     requires proper { IsProper (view_system flat.now) }
     requires nodes { nodes.now ≡ all_nodes (view_system flat.now) }

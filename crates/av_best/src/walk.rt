@@ -19,12 +19,12 @@ ghost use Rattle.av_best.specs.inner.Joint.{IsChosen, IsSound, IsAhead, IsBarred
 use crate::best::Best;
 use crate::bound::{bound, least_above, set_starts};
 use crate::learn::learn;
-use crate::span::Span;
+use crate::span::PartSpan;
 use av_base::{List, Memory, Point};
 use av_depend::{Edge, copy_point};
 use av_flat::{Flat, Reach};
 use av_sched::{
-    Plan, Price, Room, Witness, arcs_of, at_least, copy_points, is_above, is_earlier,
+    Price, Scratch, SearchPlan, Witness, arcs_of, at_least, copy_points, is_above, is_earlier,
     raise_to_least, with_more,
 };
 use std::alloc::Global;
@@ -119,11 +119,11 @@ fn leaf(
     reach: Reach,
     nodes: &[u32],
     linear: &[Point],
-    spans: &[Span],
+    spans: &[PartSpan],
     spent: Price,
     cycles: u64,
     pool: &mut Vec<Witness>,
-    room: &mut Room,
+    scratch: &mut Scratch,
     best: Option<Best>,
 ) -> Result<Option<Best>, Memory>
     requires chained { IsChained (view_system flat.now) }
@@ -146,7 +146,7 @@ fn leaf(
     let arcs = arcs_of(alloc, edges, linear)?;
     let mut offsets = Vec::new(alloc);
     set_starts(spans, nodes.len(), &mut offsets)?;
-    if !raise_to_least(&arcs, &mut offsets, &mut room.old)? {
+    if !raise_to_least(&arcs, &mut offsets, &mut scratch.old)? {
         learn(alloc, flat, edges, nodes, linear, &arcs, pool)?;
         return Ok(best);
     }
@@ -171,15 +171,15 @@ pub(crate) fn walk(
     edges: &[Edge],
     reach: Reach,
     nodes: &[u32],
-    plan: &Plan,
-    table: &[List<Span>],
+    plan: &SearchPlan,
+    table: &[List<PartSpan>],
     level: usize,
     spent: Price,
     cycles: u64,
     linear: &mut [Point],
-    spans: &mut [Span],
+    spans: &mut [PartSpan],
     pool: &mut Vec<Witness>,
-    room: &mut Room,
+    scratch: &mut Scratch,
     best: Option<Best>,
 ) -> Result<Option<Best>, Memory>
     requires chained { IsChained (view_system flat.now) }
@@ -206,7 +206,7 @@ pub(crate) fn walk(
 {
     if level == nodes.len() {
         return leaf(
-            alloc, flat, edges, reach, nodes, linear, spans, spent, cycles, pool, room, best,
+            alloc, flat, edges, reach, nodes, linear, spans, spent, cycles, pool, scratch, best,
         );
     }
     let before = copy_point(&linear[level]);
@@ -231,7 +231,7 @@ pub(crate) fn walk(
             linear,
             spans,
             pool,
-            room,
+            scratch,
             best,
         )?;
     }
@@ -247,14 +247,14 @@ fn walk_unless_barred(
     edges: &[Edge],
     reach: Reach,
     nodes: &[u32],
-    plan: &Plan,
-    table: &[List<Span>],
+    plan: &SearchPlan,
+    table: &[List<PartSpan>],
     level: usize,
     spent: Price,
     linear: &mut [Point],
-    spans: &mut [Span],
+    spans: &mut [PartSpan],
     pool: &mut Vec<Witness>,
-    room: &mut Room,
+    scratch: &mut Scratch,
     best: Option<Best>,
 ) -> Result<Option<Best>, Memory>
     requires chained { IsChained (view_system flat.now) }
@@ -278,7 +278,10 @@ fn walk_unless_barred(
     ensures spanned { IfOk result (λ new. AreSpanned (view_system flat.now) level linear.old spans.new) }
     ensures pool { IfOk result (λ new. All (IsWitness edges.now nodes.now) pool.new.items) }
 {
-    let Some(cycles) = bound(flat, edges, reach, nodes, level, linear, spans, pool, room)? else {
+    let Some(cycles) = bound(
+        flat, edges, reach, nodes, level, linear, spans, pool, scratch,
+    )?
+    else {
         return Ok(best);
     };
     let rest = plan.floors[nodes.len() - level];
@@ -289,6 +292,6 @@ fn walk_unless_barred(
     }
     walk(
         alloc, flat, edges, reach, nodes, plan, table, level, spent, cycles, linear, spans, pool,
-        room, best,
+        scratch, best,
     )
 }

@@ -11,20 +11,20 @@ use Rattle.av_flat.specs.Trees.{Tree, Piece, Variable, FlatSystem, view_piece, v
 use Rattle.av_flat.specs.Broadcasts.{Reference}
 use Rattle.av_flat.specs.Nodes.{nodes}
 use Rattle.av_space.specs.declared.array.Array.{Array as ArrayMade}
-use Rattle.av_space.specs.declared.spots.Site.{Site as PlaceMade}
+use Rattle.av_space.specs.declared.spots.Site.{Site}
 use Rattle.av_space.specs.declared.spots.Spot.{Spot as SpotMade}
 use Rattle.av_space.specs.Sites.{place_of}
-use Rattle.av_space.specs.Spots.{system_of, helpers_of, IsSpot, IsSiteOf, AreSites, handing_by}
-use Rattle.av_space.specs.Taps.{node_place, Handing, helper_at, Place, places_in}
+use Rattle.av_space.specs.Spots.{system_of, helpers_of, IsSpot, IsSiteOf, AreSites, pipeline_by}
+use Rattle.av_space.specs.Taps.{node_place, Pipeline, helper_at, ReadingPlace, places_in}
 use Rattle.av_space.proofs.Elements.{in_range}
 use Rattle.av_kinds.specs.declared.counter.Counter.{Counter}
 use Rattle.av_kinds.specs.declared.program.Inlet.TheVariants.{Pipe}
-use Rattle.av_kinds.specs.declared.program.Site.{Site}
+use Rattle.av_kinds.specs.declared.program.ProgramSite.{ProgramSite}
 use Rattle.av_kinds.specs.Counters.{count_in}
 use Rattle.av_kinds.specs.Programs.{site_count, Work, Mode, Lane, Paired, AreAlikeSites, AreAlikeModes, AreAlikeLanes}
 use Rattle.av_kinds.specs.Written.{LaneMade, lane_of}
 use Rattle.av_kinds.proofs.Placing.{from_place}
-use Rattle.av_history.specs.Performing.{Array, Lanes, helper_spot, handing_at}
+use Rattle.av_history.specs.Performing.{Array, Lanes, helper_spot, pipeline_at}
 use Rattle.av_history.specs.Places.{EachPlace}
 use Rattle.av_history.specs.Widths.{read_width}
 use Rattle.av_history.proofs.Words.{place_both}
@@ -62,26 +62,26 @@ paired_parts {X} R xs (suc n) f g each =
 
 -- ---- the helpers of places are told by the places
 
-abbrev handings_of : List PlaceMade → List (Option Handing)
-handings_of sites = map (λ (s : PlaceMade). s.handing) sites
+abbrev pipelines_of : List Site → List (Option Pipeline)
+pipelines_of sites = map (λ (s : Site). s.pipeline) sites
 
-handings_are : (w : ArrayMade) (at : SpotMade) (sites : List PlaceMade) → AllByRecursion (IsSiteOf w at) sites
-    → handings_of sites ≡ map (λ (q : Place). handing_by (helpers_of w) at.place q q.tree) (map (λ (s : PlaceMade). place_of s.place) sites)
-handings_are w at [] h = refl
-handings_are w at (s ∷ sites) h =
-    ap (λ (o : Option Handing). o ∷ handings_of sites) h.0.handing
-    ∙ ap (λ (l : List (Option Handing)). handing_by (helpers_of w) at.place (place_of s.place) (place_of s.place).tree ∷ l) (handings_are w at sites h.1)
+pipelines_are : (w : ArrayMade) (at : SpotMade) (sites : List Site) → AllByRecursion (IsSiteOf w at) sites
+    → pipelines_of sites ≡ map (λ (q : ReadingPlace). pipeline_by (helpers_of w) at.place q q.tree) (map (λ (s : Site). place_of s.place) sites)
+pipelines_are w at [] h = refl
+pipelines_are w at (s ∷ sites) h =
+    ap (λ (o : Option Pipeline). o ∷ pipelines_of sites) h.0.pipeline
+    ∙ ap (λ (l : List (Option Pipeline)). pipeline_by (helpers_of w) at.place (place_of s.place) (place_of s.place).tree ∷ l) (pipelines_are w at sites h.1)
 
-site_helpers_same : (k i : ℕ) (xs ys : List PlaceMade) → handings_of xs ≡ handings_of ys → site_helpers k i xs ≡ site_helpers k i ys
+site_helpers_same : (k i : ℕ) (xs ys : List Site) → pipelines_of xs ≡ pipelines_of ys → site_helpers k i xs ≡ site_helpers k i ys
 site_helpers_same k i [] [] e = refl
 site_helpers_same k i [] (t ∷ ys) e = absurd cc
 site_helpers_same k i (s ∷ xs) [] e = absurd cc
 site_helpers_same k i (s ∷ xs) (t ∷ ys) e =
-    let first = same_head s.handing t.handing (handings_of xs) (handings_of ys) e in
-    let rest = site_helpers_same k (suc i) xs ys (same_tail s.handing t.handing (handings_of xs) (handings_of ys) e) in
-    ap (λ (o : Option Handing). with_helper k i o (site_helpers k (suc i) xs)) first ∙ ap (λ (l : List HelperPlan). with_helper k i t.handing l) rest
+    let first = same_head s.pipeline t.pipeline (pipelines_of xs) (pipelines_of ys) e in
+    let rest = site_helpers_same k (suc i) xs ys (same_tail s.pipeline t.pipeline (pipelines_of xs) (pipelines_of ys) e) in
+    ap (λ (o : Option Pipeline). with_helper k i o (site_helpers k (suc i) xs)) first ∙ ap (λ (l : List HelperPlan). with_helper k i t.pipeline l) rest
 
-helpers_same : (k : ℕ) (ps qs : List (List PlaceMade)) → length ps ≡ length qs → ((j : ℕ) (xs ys : List PlaceMade) → slice_get ps j ≡ Some xs → slice_get qs j ≡ Some ys → handings_of xs ≡ handings_of ys) → helpers_from k ps ≡ helpers_from k qs
+helpers_same : (k : ℕ) (ps qs : List (List Site)) → length ps ≡ length qs → ((j : ℕ) (xs ys : List Site) → slice_get ps j ≡ Some xs → slice_get qs j ≡ Some ys → pipelines_of xs ≡ pipelines_of ys) → helpers_from k ps ≡ helpers_from k qs
 helpers_same k [] [] size each = refl
 helpers_same k [] (ys ∷ qs) size each = absurd (omega (arith, size))
 helpers_same k (xs ∷ ps) [] size each = absurd (omega (arith, size))
@@ -102,20 +102,20 @@ module _ (w : ArrayMade) (at of : SpotMade) (s : IsSpot w at) (t : IsSpot w of) 
   place_same : at.place ≡ of.place
   place_same = s.place ∙ ap (node_place (system_of w)) node ∙ sym t.place
 
-  handings_same : (xs ys : List PlaceMade) → AreSites w at xs → AreSites w of ys → handings_of xs ≡ handings_of ys
-  handings_same xs ys x y =
-      let by : ℕ → Place → Option Handing = λ own q. handing_by (helpers_of w) own q q.tree in
-      let there : map (λ (s : PlaceMade). place_of s.place) xs ≡ map (λ (s : PlaceMade). place_of s.place) ys =
+  pipelines_same : (xs ys : List Site) → AreSites w at xs → AreSites w of ys → pipelines_of xs ≡ pipelines_of ys
+  pipelines_same xs ys x y =
+      let by : ℕ → ReadingPlace → Option Pipeline = λ own q. pipeline_by (helpers_of w) own q q.tree in
+      let there : map (λ (s : Site). place_of s.place) xs ≡ map (λ (s : Site). place_of s.place) ys =
       x.places ∙ ap (λ (k : ℕ). places_in k 0 (view_piece at.piece.now).tree) number ∙ ap (λ (q : Piece). places_in of.number 0 q.tree) piece_same ∙ sym y.places in
-      handings_are w at xs (recursion_from_All (IsSiteOf w at) xs x.each) ∙ ap (map (by at.place)) there
-      ∙ ap (λ (own : ℕ). map (by own) (map (λ (s : PlaceMade). place_of s.place) ys)) place_same ∙ sym (handings_are w of ys (recursion_from_All (IsSiteOf w of) ys y.each))
+      pipelines_are w at xs (recursion_from_All (IsSiteOf w at) xs x.each) ∙ ap (map (by at.place)) there
+      ∙ ap (λ (own : ℕ). map (by own) (map (λ (s : Site). place_of s.place) ys)) place_same ∙ sym (pipelines_are w of ys (recursion_from_All (IsSiteOf w of) ys y.each))
 
-  handing_same : (i : ℕ) → handing_at (seen w) (spot_of at) i ≡ handing_at (seen w) (spot_of of) i
-  handing_same i = ap (λ (n : ℕ). helper_at (helpers_of w) (node_place (system_of w) n) at.number i) node ∙ ap (λ (k : ℕ). helper_at (helpers_of w) (node_place (system_of w) of.node) k i) number
+  pipeline_same : (i : ℕ) → pipeline_at (seen w) (spot_of at) i ≡ pipeline_at (seen w) (spot_of of) i
+  pipeline_same i = ap (λ (n : ℕ). helper_at (helpers_of w) (node_place (system_of w) n) at.number i) node ∙ ap (λ (k : ℕ). helper_at (helpers_of w) (node_place (system_of w) of.node) k i) number
 
 -- ---- alike lanes of helpers
 
-one_alike : (m n : Mode) (s t : Site) (tree : Tree) → m.work ≡ one_site s tree → n.work ≡ one_site t tree → AreAlikeSites s t → AreAlikeModes m n
+one_alike : (m n : Mode) (s t : ProgramSite) (tree : Tree) → m.work ≡ one_site s tree → n.work ≡ one_site t tree → AreAlikeSites s t → AreAlikeModes m n
 one_alike m n s t tree e f alike = record {
   tree = ap (λ (x : Work). x.tree) e ∙ sym (ap (λ (x : Work). x.tree) f);
   sites = subst (λ (x : Work). Paired AreAlikeSites x.sites n.work.sites) (sym e) (subst (λ (x : Work). Paired AreAlikeSites (s ∷ []) x.sites) (sym f) (alike, tt));
@@ -138,7 +138,7 @@ alike_helpers a count lanes j h v piece r p q l m x y = record {
 
 -- ---- alike cells
 
-inlet_same : (s : FlatSystem) (f g : ℕ → ℕ) → ((j : ℕ) → f j ≡ g j) → (o : Option Handing) (t : Tree) → inlet_by s f o t ≡ inlet_by s g o t
+inlet_same : (s : FlatSystem) (f g : ℕ → ℕ) → ((j : ℕ) → f j ≡ g j) → (o : Option Pipeline) (t : Tree) → inlet_by s f o t ≡ inlet_by s g o t
 inlet_same s f g e None (reference place m) = refl
 inlet_same s f g e (Some h) (reference place m) = ap Pipe (e h.number)
 inlet_same s f g e None _ = refl
@@ -176,7 +176,7 @@ module _ (b : Blueprint) (is : IsBlueprint b) (p q : ℕ) (x y : CellPlan) (is_x
       let at = there_is (spots_on w x.pieces) j (omega (arith, low, a)) in
       let of = there_is (spots_on w y.pieces) j (omega (arith, low, a, e)) in
       let f = alike.1 j at.0 of.0 at.1 of.1 in
-      handings_same w at.0 of.0 (on_x j at.0 at.1).2 (on_y j of.0 of.1).2 f.0 f.1 xs ys (of_x.sites j at.0 xs at.1 is_xs) (of_y.sites j of.0 ys of.1 is_ys)))
+      pipelines_same w at.0 of.0 (on_x j at.0 at.1).2 (on_y j of.0 of.1).2 f.0 f.1 xs ys (of_x.sites j at.0 xs at.1 is_xs) (of_y.sites j of.0 ys of.1 is_ys)))
 
   pipes_are : (j : ℕ) → pipe_in lanes p x.lanes.first j ≡ pipe_in lanes q y.lanes.first j
   pipes_are j =
@@ -191,24 +191,24 @@ module _ (b : Blueprint) (is : IsBlueprint b) (p q : ℕ) (x y : CellPlan) (is_x
     piece_is : view_piece at.piece.now ≡ view_piece of.piece.now
     piece_is = piece_same w at of s t node number
 
-    site_alike : (i : ℕ) (u : Tree) (c d : Site) → IsPlaceSite (seen w) count lanes x.lanes.first (spot_of at) i u c → IsPlaceSite (seen w) count lanes y.lanes.first (spot_of of) i u d → AreAlikeSites c d
+    site_alike : (i : ℕ) (u : Tree) (c d : ProgramSite) → IsPlaceSite (seen w) count lanes x.lanes.first (spot_of at) i u c → IsPlaceSite (seen w) count lanes y.lanes.first (spot_of of) i u d → AreAlikeSites c d
     site_alike i u c d g h =
-        let handing = handing_same w at of s t node number i in
+        let pipeline = pipeline_same w at of s t node number i in
         let f : ℕ → ℕ = pipe_in lanes at.cell x.lanes.first in
         let k : ℕ → ℕ = pipe_in lanes of.cell y.lanes.first in
         let pipes : (j : ℕ) → f j ≡ k j = λ j. ap (λ (n : ℕ). pipe_in lanes n x.lanes.first j) here ∙ pipes_are j ∙ sym (ap (λ (n : ℕ). pipe_in lanes n y.lanes.first j) there) in
         record {
-          inlet = g.inlet ∙ inlet_same (system_of w) f k pipes (handing_at (seen w) (spot_of at) i) u ∙ ap (λ (o : Option Handing). inlet_by (system_of w) k o u) handing ∙ sym h.inlet;
+          inlet = g.inlet ∙ inlet_same (system_of w) f k pipes (pipeline_at (seen w) (spot_of at) i) u ∙ ap (λ (o : Option Pipeline). inlet_by (system_of w) k o u) pipeline ∙ sym h.inlet;
           width = width_is c.width d.width
-              (g.width ∙ ap (λ (v : Variable). read_width (system_of w) v.width (handing_at (seen w) (spot_of at) i) u) (variable_same w at of s t node number)
-              ∙ ap (λ (o : Option Handing). read_width (system_of w) (view_variable of.var.now).width o u) handing ∙ sym h.width);
+              (g.width ∙ ap (λ (v : Variable). read_width (system_of w) v.width (pipeline_at (seen w) (spot_of at) i) u) (variable_same w at of s t node number)
+              ∙ ap (λ (o : Option Pipeline). read_width (system_of w) (view_variable of.var.now).width o u) pipeline ∙ sym h.width);
         }
 
     works_alike : (m n : Mode) → IsWorkFor (seen w) count lanes x.lanes.first (spot_of at) m.work → IsWorkFor (seen w) count lanes y.lanes.first (spot_of of) n.work → AreAlikeModes m n
     works_alike m n g h =
-        let A : ℕ → ℕ → Tree → Type 0 = λ k i u. (site : Site) × (slice_get m.work.sites k ≡ Some site) × IsPlaceSite (seen w) count lanes x.lanes.first (spot_of at) i u site in
-        let B : ℕ → ℕ → Tree → Type 0 = λ k i u. (site : Site) × (slice_get n.work.sites k ≡ Some site) × IsPlaceSite (seen w) count lanes y.lanes.first (spot_of of) i u site in
-        let Good : ℕ → Type 0 = λ k. (c d : Site) → slice_get m.work.sites k ≡ Some c → slice_get n.work.sites k ≡ Some d → AreAlikeSites c d in
+        let A : ℕ → ℕ → Tree → Type 0 = λ k i u. (site : ProgramSite) × (slice_get m.work.sites k ≡ Some site) × IsPlaceSite (seen w) count lanes x.lanes.first (spot_of at) i u site in
+        let B : ℕ → ℕ → Tree → Type 0 = λ k i u. (site : ProgramSite) × (slice_get n.work.sites k ≡ Some site) × IsPlaceSite (seen w) count lanes y.lanes.first (spot_of of) i u site in
+        let Good : ℕ → Type 0 = λ k. (c d : ProgramSite) → slice_get m.work.sites k ≡ Some c → slice_get n.work.sites k ≡ Some d → AreAlikeSites c d in
         let tree = (view_piece at.piece.now).tree in
         let also : EachPlace B 0 0 tree = subst (λ (z : Piece). EachPlace B 0 0 z.tree) (sym piece_is) h.sites in
         let all = place_both A B 0 0 tree g.sites also in
@@ -220,7 +220,7 @@ module _ (b : Blueprint) (is : IsBlueprint b) (p q : ℕ) (x y : CellPlan) (is_x
               numbered (λ k i u. A k i u × B k i u) Good (λ k i u z. λ c d is_c is_d. (
               let e = some_is z.0.0 c (sym z.0.1 ∙ is_c) in
               let f = some_is z.1.0 d (sym z.1.1 ∙ is_d) in
-              subst (λ (o : Site). AreAlikeSites o d) e (subst (λ (o : Site). AreAlikeSites z.0.0 o) f (site_alike i u z.0.0 z.1.0 z.0.2 z.1.2)))) 0 0 tree all k (omega arith) (omega (arith, low, many)) c d is_c is_d));
+              subst (λ (o : ProgramSite). AreAlikeSites o d) e (subst (λ (o : ProgramSite). AreAlikeSites z.0.0 o) f (site_alike i u z.0.0 z.1.0 z.0.2 z.1.2)))) 0 0 tree all k (omega arith) (omega (arith, low, many)) c d is_c is_d));
         }
 
   -- ---- the lanes of both cells

@@ -4,8 +4,8 @@ use Rattle.std.specs.Prelude.{slice_get}
 use Rattle.std.proofs.lemmas.List.{drop_more, append-nil, drop_all, take_all, length-map}
 use Rattle.av_base.proofs.Lists.{get_cases, some_is}
 use Rattle.av_space.specs.declared.array.Array.{Array as ArrayMade}
-use Rattle.av_space.specs.declared.spots.Site.{Site as Place}
-use Rattle.av_space.specs.Taps.{Handing}
+use Rattle.av_space.specs.declared.spots.Site.{Site}
+use Rattle.av_space.specs.Taps.{Pipeline}
 use Rattle.av_build.specs.declared.blueprint.CellPlan.{CellPlan}
 use Rattle.av_build.specs.declared.blueprint.HelperPlan.{HelperPlan}
 use Rattle.av_build.specs.declared.blueprint.LanePlan.{LanePlan}
@@ -15,31 +15,31 @@ use Rattle.av_build.proofs.BlueprintLemmas.{lanes_more, numbered_more, end_is}
 
 -- ---- places
 
-next_place : (k i : ℕ) (sites : List Place) (d : Place) → i < length sites → site_helpers k i (drop i sites) ≡ with_helper k i (get_or sites i d).handing (site_helpers k (i + 1) (drop (i + 1) sites))
+next_place : (k i : ℕ) (sites : List Site) (d : Site) → i < length sites → site_helpers k i (drop i sites) ≡ with_helper k i (get_or sites i d).pipeline (site_helpers k (i + 1) (drop (i + 1) sites))
 next_place k i sites d low =
     let next : suc i ≡ i + 1 = omega arith in
-    ap (site_helpers k i) (drop_more sites i d low) ∙ ap (λ (n : ℕ). with_helper k i (get_or sites i d).handing (site_helpers k n (drop (i + 1) sites))) next
+    ap (site_helpers k i) (drop_more sites i d low) ∙ ap (λ (n : ℕ). with_helper k i (get_or sites i d).pipeline (site_helpers k n (drop (i + 1) sites))) next
 
-pub none_step : (k i : ℕ) (helpers all : List HelperPlan) (sites : List Place) (d : Place) → i < length sites → (get_or sites i d).handing ≡ None → helpers ++ site_helpers k i (drop i sites) ≡ all
+pub none_step : (k i : ℕ) (helpers all : List HelperPlan) (sites : List Site) (d : Site) → i < length sites → (get_or sites i d).pipeline ≡ None → helpers ++ site_helpers k i (drop i sites) ≡ all
     → helpers ++ site_helpers k (i + 1) (drop (i + 1) sites) ≡ all
 none_step k i helpers all sites d low none before =
     let rest = site_helpers k (i + 1) (drop (i + 1) sites) in
-    ap (λ (o : Option Handing). helpers ++ with_helper k i o rest) (sym none) ∙ ap (λ (l : List HelperPlan). helpers ++ l) (sym (next_place k i sites d low)) ∙ before
+    ap (λ (o : Option Pipeline). helpers ++ with_helper k i o rest) (sym none) ∙ ap (λ (l : List HelperPlan). helpers ++ l) (sym (next_place k i sites d low)) ∙ before
 
-pub some_step : (k i : ℕ) (helpers all new : List HelperPlan) (sites : List Place) (d : Place) (h : Handing) → i < length sites → (get_or sites i d).handing ≡ Some h → helpers ++ site_helpers k i (drop i sites) ≡ all
+pub some_step : (k i : ℕ) (helpers all new : List HelperPlan) (sites : List Site) (d : Site) (h : Pipeline) → i < length sites → (get_or sites i d).pipeline ≡ Some h → helpers ++ site_helpers k i (drop i sites) ≡ all
     → new ≡ helpers ++ record { number = h.number; piece = k; site = i } ∷ [] → new ++ site_helpers k (i + 1) (drop (i + 1) sites) ≡ all
 some_step k i helpers all new sites d h low some before is =
     let rest = site_helpers k (i + 1) (drop (i + 1) sites) in
     let own : HelperPlan = record { number = h.number; piece = k; site = i } in
     ap (λ (l : List HelperPlan). l ++ rest) is ∙ append_assoc helpers (own ∷ []) rest
-    ∙ ap (λ (o : Option Handing). helpers ++ with_helper k i o rest) (sym some) ∙ ap (λ (l : List HelperPlan). helpers ++ l) (sym (next_place k i sites d low)) ∙ before
+    ∙ ap (λ (o : Option Pipeline). helpers ++ with_helper k i o rest) (sym some) ∙ ap (λ (l : List HelperPlan). helpers ++ l) (sym (next_place k i sites d low)) ∙ before
 
-pub last_step : (k i : ℕ) (helpers all : List HelperPlan) (sites : List Place) → length sites ≤ i → helpers ++ site_helpers k i (drop i sites) ≡ all → helpers ≡ all
-last_step k i helpers all sites end before = sym (append-nil helpers) ∙ ap (λ (l : List Place). helpers ++ site_helpers k i l) (sym (drop_all i sites end)) ∙ before
+pub last_step : (k i : ℕ) (helpers all : List HelperPlan) (sites : List Site) → length sites ≤ i → helpers ++ site_helpers k i (drop i sites) ≡ all → helpers ≡ all
+last_step k i helpers all sites end before = sym (append-nil helpers) ∙ ap (λ (l : List Site). helpers ++ site_helpers k i l) (sym (drop_all i sites end)) ∙ before
 
 -- ---- pieces
 
-pub piece_step : (k : ℕ) (helpers all new : List HelperPlan) (pieces : List (List Place)) (d : List Place) → k < length pieces → helpers ++ helpers_from k (drop k pieces) ≡ all → new ≡ helpers ++ site_helpers k 0 (get_or pieces k d)
+pub piece_step : (k : ℕ) (helpers all new : List HelperPlan) (pieces : List (List Site)) (d : List Site) → k < length pieces → helpers ++ helpers_from k (drop k pieces) ≡ all → new ≡ helpers ++ site_helpers k 0 (get_or pieces k d)
     → new ++ helpers_from (k + 1) (drop (k + 1) pieces) ≡ all
 piece_step k helpers all new pieces d low before is =
     let own = site_helpers k 0 (get_or pieces k d) in
@@ -48,8 +48,8 @@ piece_step k helpers all new pieces d low before is =
     let here : helpers_from k (drop k pieces) ≡ own ++ rest = ap (helpers_from k) (drop_more pieces k d low) ∙ ap (λ (n : ℕ). own ++ helpers_from n (drop (k + 1) pieces)) next in
     ap (λ (l : List HelperPlan). l ++ rest) is ∙ append_assoc helpers own rest ∙ ap (λ (l : List HelperPlan). helpers ++ l) (sym here) ∙ before
 
-pub last_piece : (k : ℕ) (helpers all : List HelperPlan) (pieces : List (List Place)) → length pieces ≤ k → helpers ++ helpers_from k (drop k pieces) ≡ all → helpers ≡ all
-last_piece k helpers all pieces end before = sym (append-nil helpers) ∙ ap (λ (l : List (List Place)). helpers ++ helpers_from k l) (sym (drop_all k pieces end)) ∙ before
+pub last_piece : (k : ℕ) (helpers all : List HelperPlan) (pieces : List (List Site)) → length pieces ≤ k → helpers ++ helpers_from k (drop k pieces) ≡ all → helpers ≡ all
+last_piece k helpers all pieces end before = sym (append-nil helpers) ∙ ap (λ (l : List (List Site)). helpers ++ helpers_from k l) (sym (drop_all k pieces end)) ∙ before
 
 -- ---- cells
 

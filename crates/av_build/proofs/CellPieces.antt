@@ -3,7 +3,7 @@ use Rattle.std.proofs.Common.{◌≡◌, ℕ, ◌<◌, List, length, get_or, sym
 use Rattle.std.specs.Prelude.{slice_get}
 use Rattle.std.proofs.lemmas.List.{length-map}
 use Rattle.av_base.proofs.Lists.{get_mapped, some_is}
-use Rattle.av_space.specs.declared.spots.Site.{Site as PlaceMade}
+use Rattle.av_space.specs.declared.spots.Site.{Site}
 use Rattle.av_space.specs.declared.spots.Spot.{Spot as SpotMade}
 use Rattle.av_build.specs.declared.blueprint.Blueprint.{Blueprint}
 use Rattle.av_build.specs.declared.blueprint.CellPlan.{CellPlan}
@@ -20,7 +20,7 @@ module _ (b : Blueprint) (is : IsBlueprint b) (p : ℕ) (low : p < length b.cell
   pub spots_are : (spots : List SpotPlan) → spots ≡ (get_or cells p plan).pieces.spots → spots ≡ plan.pieces.spots
   spots_are spots same = same ∙ ap (λ (x : CellPlan). x.pieces.spots) (sym plan_is)
 
-  pub sites_are : (sites : List (List PlaceMade)) → sites ≡ (get_or cells p plan).pieces.sites → sites ≡ plan.pieces.sites
+  pub sites_are : (sites : List (List Site)) → sites ≡ (get_or cells p plan).pieces.sites → sites ≡ plan.pieces.sites
   sites_are sites same = same ∙ ap (λ (x : CellPlan). x.pieces.sites) (sym plan_is)
 
   pub many_spots : length (spots_on b.array plan.pieces) ≡ length plan.pieces.spots
@@ -41,7 +41,7 @@ module _ (b : Blueprint) (is : IsBlueprint b) (p : ℕ) (low : p < length b.cell
     piece_at spots kept same e at made =
         get_mapped (spot_by b.array) plan.pieces.spots k kept (element_of plan.pieces.spots spots k kept kept (spots_are spots same) within e) ∙ ap (λ (x : SpotMade). Some x) (sym made)
 
-    pub places_at : (sites : List (List PlaceMade)) (own : List PlaceMade) → sites ≡ (get_or cells p plan).pieces.sites → own ≡ get_or sites k own → slice_get plan.pieces.sites k ≡ Some own
+    pub places_at : (sites : List (List Site)) (own : List Site) → sites ≡ (get_or cells p plan).pieces.sites → own ≡ get_or sites k own → slice_get plan.pieces.sites k ≡ Some own
     places_at sites own same e =
         let size = many_sites in
         element_of plan.pieces.sites sites k own own (sites_are sites same) (omega (arith, within, size)) e

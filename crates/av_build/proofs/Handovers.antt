@@ -12,11 +12,11 @@ use Rattle.av_flat.specs.Points.{has}
 use Rattle.av_flat.specs.Signatures.{signatures}
 use Rattle.av_space.specs.declared.array.Array.{Array as ArrayMade}
 use Rattle.av_space.specs.declared.layout.Slot.{Slot}
-use Rattle.av_space.specs.declared.spots.Site.{Site as PlaceMade}
+use Rattle.av_space.specs.declared.spots.Site.{Site}
 use Rattle.av_space.specs.declared.spots.Spot.{Spot as SpotMade}
 use Rattle.av_space.specs.Sites.{place_of}
-use Rattle.av_space.specs.Spots.{system_of, helpers_of, cells_of, ComputesIn, IsSpot, IsSlotIn, IsSiteOf, IsLinkedBy, handed_tap, handing_by}
-use Rattle.av_space.specs.Taps.{Handing, helper_at, node_place, Place, handed}
+use Rattle.av_space.specs.Spots.{system_of, helpers_of, cells_of, ComputesIn, IsSpot, IsSlotIn, IsSiteOf, IsLinkedBy, handed_tap, pipeline_by}
+use Rattle.av_space.specs.Taps.{Pipeline, helper_at, node_place, ReadingPlace, handed}
 use Rattle.av_space.proofs.ByPlace.{from_map}
 use Rattle.av_space.proofs.Elements.{at_index, in_range}
 use Rattle.av_space.proofs.NodePlaces.{node_at}
@@ -71,14 +71,14 @@ module _ (b : Blueprint) (is : IsBlueprint b) (j : ℕ) (h : Helper) (v : Variab
         let read : slice_get (references (view_piece at.0.piece.now).tree) h.site ≡ Some r = ap (λ (q : Piece). slice_get (references q.tree) h.site) here ∙ it.is_reference in
         let place = told at.0.number 0 (view_piece at.0.piece.now).tree h.site r read in
         let number : 0 + h.site ≡ h.site = omega arith in
-        let mapped : slice_get (map (λ (s : PlaceMade). place_of s.place) own.0) place.0 ≡ Some (record { piece = at.0.number; site = 0 + h.site; tree = reference r.place r.map }) = ap (λ (l : List Place). slice_get l place.0) sites.places ∙ place.1 in
-        let site = from_map (λ (s : PlaceMade). place_of s.place) own.0 place.0 (record { piece = at.0.number; site = 0 + h.site; tree = reference r.place r.map }) mapped in
+        let mapped : slice_get (map (λ (s : Site). place_of s.place) own.0) place.0 ≡ Some (record { piece = at.0.number; site = 0 + h.site; tree = reference r.place r.map }) = ap (λ (l : List ReadingPlace). slice_get l place.0) sites.places ∙ place.1 in
+        let site = from_map (λ (s : Site). place_of s.place) own.0 place.0 (record { piece = at.0.number; site = 0 + h.site; tree = reference r.place r.map }) mapped in
         let placed = at_index (IsSiteOf w at.0) own.0 sites.each place.0 site.0 site.1 in
         let var_is : at.0.place ≡ h.var = spot.place ∙ ap (node_place (system_of w)) (computed_node w p at.0 there.0 spot c (number_at (system_of w) h.var) z computes) ∙ own_place (system_of w) h.var v it.is_variable it.is_node in
-        let handing : site.0.handing ≡ Some (record { number = j; direction = h.direction }) =
-        placed.handing ∙ ap (λ (q : Place). handing_by (helpers_of w) at.0.place q q.tree) site.2 ∙ ap (λ (i : ℕ). helper_at (helpers_of w) at.0.place at.0.number i) number
+        let pipeline : site.0.pipeline ≡ Some (record { number = j; direction = h.direction }) =
+        placed.pipeline ∙ ap (λ (q : ReadingPlace). pipeline_by (helpers_of w) at.0.place q q.tree) site.2 ∙ ap (λ (i : ℕ). helper_at (helpers_of w) at.0.place at.0.number i) number
         ∙ ap (λ (i : ℕ). helper_at (helpers_of w) i at.0.number h.site) var_is ∙ ap (λ (i : ℕ). helper_at (helpers_of w) h.var i h.site) at.2 ∙ it.is_first in
-        let found = helper_of_place plan.pieces k.0 own.0 own.1 place.0 site.0 site.1 (record { number = j; direction = h.direction }) handing in
+        let found = helper_of_place plan.pieces k.0 own.0 own.1 place.0 site.0 site.1 (record { number = j; direction = h.direction }) pipeline in
         (found.0, record { number = j; piece = k.0; site = place.0 }, found.1, refl)
 
   pub has_helper : HasHelper b p j
@@ -89,16 +89,16 @@ module _ (b : Blueprint) (is : IsBlueprint b) (j : ℕ) (h : Helper) (v : Variab
 
 -- ---- the cell from which a link hands the helper's word on
 
-module _ (b : Blueprint) (is : IsBlueprint b) (at : SpotMade) (spot : IsSpot b.array at) (mine : PlaceMade) (placed : IsSiteOf b.array at mine) (h : Handing) (handing : mine.handing ≡ Some h)
+module _ (b : Blueprint) (is : IsBlueprint b) (at : SpotMade) (spot : IsSpot b.array at) (mine : Site) (placed : IsSiteOf b.array at mine) (h : Pipeline) (pipeline : mine.pipeline ≡ Some h)
     (t : Slot) (on : IsSlotIn b.array at.cell at.node at.piece.now.domain t) where
   abbrev s : FlatSystem
   s = system_of b.array
 
-  abbrev p : Place
+  abbrev p : ReadingPlace
   p = place_of mine.place
 
   moved : IsReference p × (helper_at (helpers_of b.array) at.place p.piece p.site ≡ Some h)
-  moved = by_tree (helpers_of b.array) at.place p p.tree h refl (sym placed.handing ∙ handing)
+  moved = by_tree (helpers_of b.array) at.place p p.tree h refl (sym placed.pipeline ∙ pipeline)
 
   piece_is : p.piece ≡ at.number
   piece_is = (place_read at.number (view at.piece.now.tree) p placed.is_place).piece_is

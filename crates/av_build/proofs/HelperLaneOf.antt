@@ -14,17 +14,17 @@ use Rattle.av_space.specs.Taps.{entries}
 use Rattle.av_space.proofs.Elements.{in_range}
 use Rattle.av_space.proofs.NodePlaces.{node_at}
 use Rattle.av_kinds.specs.declared.program.Inlet.{Inlet}
-use Rattle.av_kinds.specs.declared.program.Interval.{Interval}
-use Rattle.av_kinds.specs.declared.program.Site.{Site}
+use Rattle.av_kinds.specs.declared.program.Window.{Window}
+use Rattle.av_kinds.specs.declared.program.ProgramSite.{ProgramSite}
 use Rattle.av_kinds.specs.Programs.{site_count, Work, Mode, Lane, Program, IsInletOf, IsSite, FitsTree, IsModeOf, IsLaneOf}
 use Rattle.av_history.specs.Arranged.{IsArranged}
-use Rattle.av_history.specs.Performing.{Array, ComputesOn, Lanes, Spot, IsReferenceSource, IsHandSource, IsHelper, helper_spot}
+use Rattle.av_history.specs.Performing.{Array, ComputesOn, Lanes, Spot, IsReferenceSource, IsPipelineSource, IsHelper, helper_spot}
 use Rattle.av_build.specs.inner.Built.{HasPorts}
 use Rattle.av_build.specs.inner.Programmed.{one_site, IsHelperLane, IsProgramFor}
 use Rattle.av_build.proofs.FineLanes.{HasNumbers, fine_site, either_inlet}
 use Rattle.av_build.proofs.Lengths.{short_line}
-use Rattle.av_build.proofs.Owned.{reference_owned, hand_owned}
-use Rattle.av_build.proofs.ProgramLanes.{has_interval, numbers_small, short}
+use Rattle.av_build.proofs.Owned.{reference_owned, pipeline_owned}
+use Rattle.av_build.proofs.ProgramLanes.{has_window, numbers_small, short}
 
 module _ (a : Array) (count : ℕ → ℕ) (few : (c : ℕ) → count c < 2 ^ 12) (lanes : Lanes) (program : Program) (g : IsProgramFor a count lanes program) (arranged : IsArranged a) (ports : HasPorts a program.inputs)
     (cycles : (p c n : ℕ) (z : Point) → ComputesOn a p c n z → c < 2 ^ 12)
@@ -43,14 +43,14 @@ module _ (a : Array) (count : ℕ → ℕ) (few : (c : ℕ) → count c < 2 ^ 12
   -- ---- its two modes
 
   abbrev AreSmall : Mode → Type 0
-  AreSmall m = AllByRecursion (λ (i : Interval). (i.first < 2 ^ 12) × (i.last < 2 ^ 12)) m.intervals
+  AreSmall m = AllByRecursion (λ (i : Window). (i.first < 2 ^ 12) × (i.last < 2 ^ 12)) m.windows
 
-  one_mode : (m : Mode) (site : Site) → m.work ≡ one_site site (reference r.place r.map) → IsSite program first q site → AreSmall m → IsModeOf program first q lane.width.bits m
+  one_mode : (m : Mode) (site : ProgramSite) → m.work ≡ one_site site (reference r.place r.map) → IsSite program first q site → AreSmall m → IsModeOf program first q lane.width.bits m
   one_mode m site work fine numbers = record {
     tree = subst (λ (x : Work). FitsTree lane.width.bits x.tree) (sym work) tt;
     many = subst (λ (x : Work). length x.sites ≡ site_count x.tree) (sym work) refl;
     sites = subst (λ (x : Work). AllByRecursion (IsSite program first q) x.sites) (sym work) (fine, tt);
-    intervals = numbers;
+    windows = numbers;
   }
 
   entry_fine : IsSite program first q l.entry_site
@@ -61,8 +61,8 @@ module _ (a : Array) (count : ℕ → ℕ) (few : (c : ℕ) → count c < 2 ^ 12
 
   own_fine : IsSite program first q l.own_site
   own_fine =
-      let fine = fine_site a count few program at is_variable it.is_piece (λ z. IsTrue (has at.piece.domain (before z h.direction))) (λ z c source. IsHandSource a lanes at j h.direction h.site r.place r.map true c source) l.own_site l.own_reads
-      (λ c z source reading read brought. hand_owned a count lanes program g arranged ports l.own_site.width j h at r it refl l.own_width c z reading read source brought) in
+      let fine = fine_site a count few program at is_variable it.is_piece (λ z. IsTrue (has at.piece.domain (before z h.direction))) (λ z c source. IsPipelineSource a lanes at j h.direction h.site r.place r.map true c source) l.own_site l.own_reads
+      (λ c z source reading read brought. pipeline_owned a count lanes program g arranged ports l.own_site.width j h at r it refl l.own_width c z reading read source brought) in
       subst (λ (n : Inlet). IsInletOf program first q n l.own_site) (sym l.own_inlet) fine
 
   entry_small : AreSmall l.entry_mode
@@ -72,14 +72,14 @@ module _ (a : Array) (count : ℕ → ℕ) (few : (c : ℕ) → count c < 2 ^ 12
   own_small = numbers_small a count few lanes program g arranged ports cycles fits p (λ n z. (n ≡ at.node) × IsTrue (has at.piece.domain z)) (λ n z. IsTrue (has at.piece.domain (before z h.direction))) l.own_mode l.own_numbers
 
   -- the point is an entry point, or the one before it is in the set
-  some_mode : (k : ℕ) × (m : Mode) × (slice_get lane.modes k ≡ Some m) × (0 < length m.intervals)
+  some_mode : (k : ℕ) × (m : Mode) × (slice_get lane.modes k ≡ Some m) × (0 < length m.windows)
   some_mode = by_entry (has piece.domain (before z h.direction)) refl
     where
-      by_entry : (b : Bool) → has piece.domain (before z h.direction) ≡ b → (k : ℕ) × (m : Mode) × (slice_get lane.modes k ≡ Some m) × (0 < length m.intervals)
+      by_entry : (b : Bool) → has piece.domain (before z h.direction) ≡ b → (k : ℕ) × (m : Mode) × (slice_get lane.modes k ≡ Some m) × (0 < length m.windows)
       by_entry true e =
-          (1, l.own_mode, ap (λ (ms : List Mode). slice_get ms 1) l.modes_are, has_interval (count c) l.own_mode ((l.own_numbers.numbers c at.node z computes (refl, inside)).1 e))
+          (1, l.own_mode, ap (λ (ms : List Mode). slice_get ms 1) l.modes_are, has_window (count c) l.own_mode ((l.own_numbers.numbers c at.node z computes (refl, inside)).1 e))
       by_entry false e =
-          (0, l.entry_mode, ap (λ (ms : List Mode). slice_get ms 0) l.modes_are, has_interval (count c) l.entry_mode ((l.entry_numbers.numbers c at.node z computes (refl, inside)).1 (inside, λ t. (let f = sym e ∙ t in cc))))
+          (0, l.entry_mode, ap (λ (ms : List Mode). slice_get ms 0) l.modes_are, has_window (count c) l.entry_mode ((l.entry_numbers.numbers c at.node z computes (refl, inside)).1 (inside, λ t. (let f = sym e ∙ t in cc))))
 
   pub helper_lane_of : IsLaneOf program first p q lane
   helper_lane_of =

@@ -13,29 +13,29 @@ use Rattle.av_space.proofs.Elements.{in_range}
 use Rattle.av_kinds.specs.declared.counter.Counter.{Counter}
 use Rattle.av_kinds.specs.declared.program.Inlet.{Inlet}
 use Rattle.av_kinds.specs.declared.program.Inlet.TheVariants.{Taps}
-use Rattle.av_kinds.specs.declared.program.Site.{Site}
+use Rattle.av_kinds.specs.declared.program.ProgramSite.{ProgramSite}
 use Rattle.av_kinds.specs.Counters.{count_in}
 use Rattle.av_kinds.specs.Programs.{Work, Mode, Lane}
-use Rattle.av_kinds.specs.declared.program.Interval.{Interval}
+use Rattle.av_kinds.specs.declared.program.Window.{Window}
 use Rattle.av_kinds.specs.Written.{ModeMade, work_of, mode_of}
 use Rattle.av_history.specs.Performing.{helper_spot}
 use Rattle.av_history.specs.Widths.{read_width}
 use Rattle.av_build.specs.declared.blueprint.Blueprint.{Blueprint}
 use Rattle.av_build.specs.declared.blueprint.CellPlan.{CellPlan}
 use Rattle.av_build.specs.declared.blueprint.HelperPlan.{HelperPlan}
-use Rattle.av_build.specs.declared.intervals.Mark.{Mark}
-use Rattle.av_build.specs.declared.moments.HandMoments.{HandMoments}
+use Rattle.av_build.specs.declared.windows.CounterMark.{CounterMark}
+use Rattle.av_build.specs.declared.moments.PipelineMoments.{PipelineMoments}
 use Rattle.av_build.specs.declared.spots.SpotPlan.{SpotPlan}
 use Rattle.av_build.specs.inner.Blueprints.{seen, spot_of, spots_on, lanes_of, ArePieces, IsBlueprint, IsCounted}
-use Rattle.av_build.specs.inner.HandModes.{own_mode_by, AreHandModes}
-use Rattle.av_build.specs.inner.Intervals.{intervals_by}
+use Rattle.av_build.specs.inner.PipelineModes.{own_mode_by, ArePipelineModes}
+use Rattle.av_build.specs.inner.Windows.{windows_by}
 use Rattle.av_build.specs.inner.Lanes.{HasPlan, AreHelperModes, IsHelperOn, IsBuiltBy}
 use Rattle.av_build.specs.inner.Moments.{site_by}
 use Rattle.av_build.specs.inner.Orders.{IsInOrder}
 use Rattle.av_build.specs.inner.Programmed.{inlet_by, one_site, IsHelperLane}
-use Rattle.av_build.specs.inner.Sources.{AreHandMomentsTo}
+use Rattle.av_build.specs.inner.Sources.{ArePipelineMomentsTo}
 use Rattle.av_build.specs.inner.SpotPlans.{spot_by}
-use Rattle.av_build.proofs.HandModes.{hand_lane}
+use Rattle.av_build.proofs.PipelineModes.{pipeline_lane}
 use Rattle.av_build.proofs.HelperPlaces.{IsHelped, helped, spot_at, variable_is, tree_is, moments_are, slots_are}
 use Rattle.av_build.proofs.HelpersOn.{IsFromPlace, place_of_helper}
 use Rattle.av_build.proofs.Pairwise.{element_of}
@@ -43,14 +43,14 @@ use Rattle.av_build.proofs.SeenArray.{one_seen}
 
 -- ---- a mode by its marks
 
-abbrev pub by_marks : List Mark → Site → Tree → Mode
-by_marks marks site t = record { intervals = intervals_by marks; work = one_site site t }
+abbrev pub by_marks : List CounterMark → ProgramSite → Tree → Mode
+by_marks marks site t = record { windows = windows_by marks; work = one_site site t }
 
-pub mode_made : {E : Type 0} (read marks : List Mark) (site : Site) (t : Tree) → read ≡ marks → (r : Result ModeMade E) → IfOk r (λ mode. mode.intervals ≡ intervals_by read)
+pub mode_made : {E : Type 0} (read marks : List CounterMark) (site : ProgramSite) (t : Tree) → read ≡ marks → (r : Result ModeMade E) → IfOk r (λ mode. mode.windows ≡ windows_by read)
     → IfOk r (λ mode. work_of mode.work ≡ one_site site t) → IfOk r (λ mode. mode_of mode ≡ by_marks marks site t)
-mode_made read marks site t same (Ok mode) intervals work =
-    ap₂ (λ (i : List Interval) (w : Work). record { intervals = i; work = w }) (intervals ∙ ap (λ (l : List Mark). intervals_by l) same) work
-mode_made read marks site t same (Err e) intervals work = tt
+mode_made read marks site t same (Ok mode) windows work =
+    ap₂ (λ (i : List Window) (w : Work). record { windows = i; work = w }) (windows ∙ ap (λ (l : List CounterMark). windows_by l) same) work
+mode_made read marks site t same (Err e) windows work = tt
 
 -- ---- a helper of a piece, as one of a place of its cell
 
@@ -61,28 +61,28 @@ module _ (b : Blueprint) (is : IsBlueprint b) (at : SpotMade) (h : HelperPlan) (
     are_sites = subst (λ (k : ℕ). slice_get on.spot_on.plan.pieces.sites k ≡ Some on.sites) (sym on.piece_is) on.spot_on.are_sites;
     site = on.place;
     is_site = on.is_place;
-    handing = on.handing;
-    is_handing = on.is_handing;
+    pipeline = on.pipeline;
+    is_pipeline = on.is_pipeline;
     number = on.number;
   }
 
   pub pieces_there : ArePieces b.array at.cell on.spot_on.plan.pieces
   pieces_there = is.plans.pieces at.cell on.spot_on.plan on.spot_on.is_plan
 
-  pub helped_there : IsHelped b.array is.array at.cell on.spot_on.plan.pieces pieces_there h at on.place on.handing
+  pub helped_there : IsHelped b.array is.array at.cell on.spot_on.plan.pieces pieces_there h at on.place on.pipeline
   unfolding from_place
   helped_there =
       let x = helped b.array is.array at.cell on.spot_on.plan.pieces pieces_there h from_place in
       let e : slice_get (spots_on b.array on.spot_on.plan.pieces) h.piece ≡ Some at = ap (λ (k : ℕ). slice_get (spots_on b.array on.spot_on.plan.pieces) k) on.piece_is ∙ on.spot_on.is_spot in
-      subst (λ (y : SpotMade). IsHelped b.array is.array at.cell on.spot_on.plan.pieces pieces_there h y on.place on.handing) (some_is x.0 at (sym x.1.is_spot ∙ e)) x.1
+      subst (λ (y : SpotMade). IsHelped b.array is.array at.cell on.spot_on.plan.pieces pieces_there h y on.place on.pipeline) (some_is x.0 at (sym x.1.is_spot ∙ e)) x.1
 
   -- ---- its modes
 
-  module _ (counter : Counter) (counted : IsCounted b.array counter) (order : List ℕ) (in_order : IsInOrder (count_in counter) at.slots order) (found : HandMoments)
-      (are : AreHandMomentsTo (seen b.array) (count_in counter) (lanes_of b.cells) (spot_of at) on.place.place.site on.handing (view on.place.place.tree) at.slots order (length order) found)
-      (entries : Site) (entries_are : entries ≡ site_by (inlet_by (system_of b.array) (λ j. j) None (view on.place.place.tree)) entries.width found.entries)
+  module _ (counter : Counter) (counted : IsCounted b.array counter) (order : List ℕ) (in_order : IsInOrder (count_in counter) at.slots order) (found : PipelineMoments)
+      (are : ArePipelineMomentsTo (seen b.array) (count_in counter) (lanes_of b.cells) (spot_of at) on.place.place.site on.pipeline (view on.place.place.tree) at.slots order (length order) found)
+      (entries : ProgramSite) (entries_are : entries ≡ site_by (inlet_by (system_of b.array) (λ j. j) None (view on.place.place.tree)) entries.width found.entries)
       (entry_bits : entries.width.bits ≡ read_width (system_of b.array) (view_variable at.var.now).width None (view on.place.place.tree))
-      (width : Width) (own_bits : width.bits ≡ (view_variable at.var.now).width) (own : Site) (own_is : own ≡ site_by Taps width found.own) where
+      (width : Width) (own_bits : width.bits ≡ (view_variable at.var.now).width) (own : ProgramSite) (own_is : own ≡ site_by Taps width found.own) where
     abbrev w : ArrayMade
     w = b.array
 
@@ -93,13 +93,13 @@ module _ (b : Blueprint) (is : IsBlueprint b) (at : SpotMade) (h : HelperPlan) (
     tree = view on.place.place.tree
 
     abbrev entry_mode : Mode
-    entry_mode = record { intervals = intervals_by found.entry_marks; work = one_site entries tree }
+    entry_mode = record { windows = windows_by found.entry_marks; work = one_site entries tree }
 
     abbrev own_mode : Mode
-    own_mode = record { intervals = intervals_by found.own_marks; work = one_site own tree }
+    own_mode = record { windows = windows_by found.own_marks; work = one_site own tree }
 
     abbrev mode_by : Inlet → Tree → Mode
-    mode_by inlet t = record { intervals = intervals_by found.entry_marks; work = one_site (site_by inlet entries.width found.entries) t }
+    mode_by inlet t = record { windows = windows_by found.entry_marks; work = one_site (site_by inlet entries.width found.entries) t }
 
     pub helper_modes : AreHelperModes b counter at h (entry_mode ∷ own_mode ∷ [])
     unfolding from_place
@@ -111,10 +111,10 @@ module _ (b : Blueprint) (is : IsBlueprint b) (at : SpotMade) (h : HelperPlan) (
         let wide = ap (λ (u : Variable). u.width) variable in
         let read : tree ≡ reference r.place r.map = tree_is w is.array at.cell pieces there h from_place at x helper v piece r it in
         let first : entry_mode ≡ mode_by (inlet_by s (λ j. j) None (reference r.place r.map)) (reference r.place r.map) =
-        ap (λ (y : Site). record { intervals = intervals_by found.entry_marks; work = one_site y tree }) entries_are ∙ ap (λ (t : Tree). mode_by (inlet_by s (λ j. j) None t) t) read in
-        let second : own_mode ≡ record { intervals = intervals_by found.own_marks; work = one_site (site_by Taps width found.own) (reference r.place r.map) } =
-        ap₂ (λ (y : Site) (t : Tree). record { intervals = intervals_by found.own_marks; work = one_site y t }) own_is read in
-        hand_lane (seen w) counter (lanes_of b.cells) (helper_spot (seen w) helper v piece at.cell) h.number helper r
+        ap (λ (y : ProgramSite). record { windows = windows_by found.entry_marks; work = one_site y tree }) entries_are ∙ ap (λ (t : Tree). mode_by (inlet_by s (λ j. j) None t) t) read in
+        let second : own_mode ≡ record { windows = windows_by found.own_marks; work = one_site (site_by Taps width found.own) (reference r.place r.map) } =
+        ap₂ (λ (y : ProgramSite) (t : Tree). record { windows = windows_by found.own_marks; work = one_site y t }) own_is read in
+        pipeline_lane (seen w) counter (lanes_of b.cells) (helper_spot (seen w) helper v piece at.cell) h.number helper r
         (λ c d m n y z. counted.within at.cell c d m n y z) (λ c m n y z. one_seen w is.array at.cell c m n y z)
         at.slots (slots_are w is.array at.cell pieces there h from_place at x helper v piece r it) order in_order
         found (moments_are w is.array at.cell pieces there h from_place at x helper v piece r it (count_in counter) (lanes_of b.cells) order found are)
@@ -122,15 +122,15 @@ module _ (b : Blueprint) (is : IsBlueprint b) (at : SpotMade) (h : HelperPlan) (
         lane frame.home frame.rank (frame.width ∙ wide) (modes ∙ ap₂ (λ (m n : Mode). m ∷ n ∷ []) first second) frame.size
 
   -- those that were made
-  pub modes_there : (counter : Counter) → IsCounted b.array counter → (order : List ℕ) → IsInOrder (count_in counter) at.slots order → (found : HandMoments)
-      → AreHandMomentsTo (seen b.array) (count_in counter) (lanes_of b.cells) (spot_of at) on.place.place.site on.handing (view on.place.place.tree) at.slots order (length order) found
-      → (width : Width) → width.bits ≡ (view_variable at.var.now).width → (modes : List Mode) → AreHandModes (system_of b.array) width (view on.place.place.tree) found modes → AreHelperModes b counter at h modes
+  pub modes_there : (counter : Counter) → IsCounted b.array counter → (order : List ℕ) → IsInOrder (count_in counter) at.slots order → (found : PipelineMoments)
+      → ArePipelineMomentsTo (seen b.array) (count_in counter) (lanes_of b.cells) (spot_of at) on.place.place.site on.pipeline (view on.place.place.tree) at.slots order (length order) found
+      → (width : Width) → width.bits ≡ (view_variable at.var.now).width → (modes : List Mode) → ArePipelineModes (system_of b.array) width (view on.place.place.tree) found modes → AreHelperModes b counter at h modes
   modes_there counter counted order in_order found are width own_bits modes made =
       let s = system_of b.array in
       let t = view on.place.place.tree in
       let entry = made.is_entry in
       let bits : entry.site.width.bits ≡ read_width s (view_variable at.var.now).width None t = entry.width ∙ ap (λ (n : ℕ). read_width s n None t) own_bits in
-      let second : own_mode_by width t found ≡ record { intervals = intervals_by found.own_marks; work = one_site (site_by Taps width found.own) t } = refl in
+      let second : own_mode_by width t found ≡ record { windows = windows_by found.own_marks; work = one_site (site_by Taps width found.own) t } = refl in
       subst (AreHelperModes b counter at h) (sym (made.are ∙ ap₂ (λ (m n : Mode). m ∷ n ∷ []) entry.is second))
       (helper_modes counter counted order in_order found are entry.site entry.site_is bits width own_bits (site_by Taps width found.own) refl)
 
@@ -161,8 +161,8 @@ module _ (b : Blueprint) (is : IsBlueprint b) (p : ℕ) (h : HelperPlan) (has : 
           piece_is = refl;
           place = from.site;
           is_place = from.is_site;
-          handing = from.handing;
-          is_handing = from.is_handing;
+          pipeline = from.pipeline;
+          is_pipeline = from.is_pipeline;
           number = from.number;
         };
         few = in_range (helpers_of b.array) h.number x.1.helper x.1.helps.is_helper;

@@ -10,11 +10,11 @@ use Rattle.av_flat.specs.Broadcasts.{Reference, references}
 use Rattle.av_flat.specs.Nodes.{number_at}
 use Rattle.av_flat.specs.Signatures.{signatures}
 use Rattle.av_space.specs.declared.array.Array.{Array as ArrayMade}
-use Rattle.av_space.specs.declared.spots.Site.{Site as PlaceMade}
+use Rattle.av_space.specs.declared.spots.Site.{Site}
 use Rattle.av_space.specs.declared.spots.Spot.{Spot as SpotMade}
 use Rattle.av_space.specs.Sites.{place_of}
-use Rattle.av_space.specs.Spots.{system_of, helpers_of, IsArray, IsSpot, IsSiteOf, handing_by}
-use Rattle.av_space.specs.Taps.{Handing, helper_at, Place, places_in}
+use Rattle.av_space.specs.Spots.{system_of, helpers_of, IsArray, IsSpot, IsSiteOf, pipeline_by}
+use Rattle.av_space.specs.Taps.{Pipeline, helper_at, ReadingPlace, places_in}
 use Rattle.av_space.proofs.Elements.{at_index, in_range}
 use Rattle.av_space.proofs.Helpers.{found_helper}
 use Rattle.av_space.proofs.SpotPlaces.{IsPlaceBy, place_read}
@@ -22,21 +22,21 @@ use Rattle.av_space.proofs.SpotReadings.{known}
 use Rattle.av_history.specs.Performing.{Lanes, Spot, IsHelper, helper_spot}
 use Rattle.av_build.specs.declared.blueprint.HelperPlan.{HelperPlan}
 use Rattle.av_build.specs.declared.blueprint.Pieces.{Pieces}
-use Rattle.av_build.specs.declared.moments.HandMoments.{HandMoments}
+use Rattle.av_build.specs.declared.moments.PipelineMoments.{PipelineMoments}
 use Rattle.av_build.specs.inner.Blueprints.{seen, spot_of, spots_on, ArePieces}
-use Rattle.av_build.specs.inner.Sources.{AreHandMomentsTo}
+use Rattle.av_build.specs.inner.Sources.{ArePipelineMomentsTo}
 use Rattle.av_build.proofs.Appended.{get_right}
 use Rattle.av_build.proofs.HelpersOn.{IsFromPlace}
 use Rattle.av_build.proofs.MomentLemmas.{AreSpotSlots}
 use Rattle.av_build.proofs.SpotNodes.{node_of, spot_slots}
 
 -- a place with a helper is a reference
-pub record IsReference (p : Place) : Type 0 where
+pub record IsReference (p : ReadingPlace) : Type 0 where
   pub place : ℕ
   pub map_is : Map
   pub tree : p.tree ≡ reference place map_is
 
-pub by_tree : (hs : List Helper) (own : ℕ) (p : Place) (t : Tree) (h : Handing) → p.tree ≡ t → handing_by hs own p t ≡ Some h → IsReference p × (helper_at hs own p.piece p.site ≡ Some h)
+pub by_tree : (hs : List Helper) (own : ℕ) (p : ReadingPlace) (t : Tree) (h : Pipeline) → p.tree ≡ t → pipeline_by hs own p t ≡ Some h → IsReference p × (helper_at hs own p.piece p.site ≡ Some h)
 by_tree hs own p (reference place m) h e f = (record { place = place; map_is = m; tree = e }, f)
 by_tree hs own p (pick place choices n) h e f = absurd cc
 by_tree hs own p (constant n) h e f = absurd cc
@@ -50,10 +50,10 @@ by_tree hs own p (reduction o m u set) h e f = absurd cc
 -- ---- the place of a reference
 
 -- of each reference there is a place with its number, counted from n on
-abbrev pub Tells : ℕ → ℕ → List Place → List Reference → Type 0
+abbrev pub Tells : ℕ → ℕ → List ReadingPlace → List Reference → Type 0
 Tells k n ps rs = (i : ℕ) (r : Reference) → slice_get rs i ≡ Some r → (j : ℕ) × (slice_get ps j ≡ Some (record { piece = k; site = n + i; tree = reference r.place r.map }))
 
-both_told : (k n m : ℕ) (ps qs : List Place) (rs more : List Reference) → m ≡ n + length rs → Tells k n ps rs → Tells k m qs more → Tells k n (ps ++ qs) (rs ++ more)
+both_told : (k n m : ℕ) (ps qs : List ReadingPlace) (rs more : List Reference) → m ≡ n + length rs → Tells k n ps rs → Tells k m qs more → Tells k n (ps ++ qs) (rs ++ more)
 both_told k n m ps qs rs more e f g = λ i r is. (elim (get_cases rs more i r is) [
   | inl l ↦ (let x = f i r l in (x.0, get_first ps qs x.0 (record { piece = k; site = n + i; tree = reference r.place r.map }) x.1))
   | inr b ↦ (
@@ -107,7 +107,7 @@ module _ (w : ArrayMade) (is : IsArray w) (p : ℕ) (pieces : Pieces) (are : Are
   spot_at k at e = at_index (λ (at : SpotMade). (at.cell ≡ p) × (0 < length at.slots) × IsSpot w at) (spots_on w pieces) are.spots.each k at e
 
   -- a place with a helper, as a helper of the array
-  pub record IsHelped (h : HelperPlan) (at : SpotMade) (mine : PlaceMade) (handing : Handing) : Type 0 where
+  pub record IsHelped (h : HelperPlan) (at : SpotMade) (mine : Site) (pipeline : Pipeline) : Type 0 where
     pub is_spot : slice_get (spots_on w pieces) h.piece ≡ Some at
     pub placed : IsSiteOf w at mine
     pub helper : Helper
@@ -118,9 +118,9 @@ module _ (w : ArrayMade) (is : IsArray w) (p : ℕ) (pieces : Pieces) (are : Are
     pub node : number_at s helper.var ≡ at.node
     pub piece : helper.piece ≡ at.number
     pub site : helper.site ≡ mine.place.site
-    pub direction : helper.direction ≡ handing.direction
+    pub direction : helper.direction ≡ pipeline.direction
 
-  pub helped : (h : HelperPlan) (on : IsFromPlace pieces h) → (at : SpotMade) × IsHelped h at on.site on.handing
+  pub helped : (h : HelperPlan) (on : IsFromPlace pieces h) → (at : SpotMade) × IsHelped h at on.site on.pipeline
   helped h on =
       let many = are.one_each in
       let low = in_range pieces.sites h.piece on.sites on.are_sites in
@@ -130,15 +130,15 @@ module _ (w : ArrayMade) (is : IsArray w) (p : ℕ) (pieces : Pieces) (are : Are
       let own = are.sites h.piece at on.sites here.1 on.are_sites in
       let placed = at_index (IsSiteOf w at) on.sites own.each h.site on.site on.is_site in
       let q = place_of on.site.place in
-      let b = by_tree (helpers_of w) at.place q q.tree on.handing refl (sym placed.handing ∙ on.is_handing) in
+      let b = by_tree (helpers_of w) at.place q q.tree on.pipeline refl (sym placed.pipeline ∙ on.is_pipeline) in
       let r = b.0 in
       let piece = (place_read at.number (view at.piece.now.tree) q placed.is_place).piece_is in
       let found = ap (λ (k : ℕ). helper_at (helpers_of w) at.place k q.site) (sym piece) ∙ b.1 in
-      let f = found_helper (helpers_of w) 0 at.place at.number q.site on.handing found in
+      let f = found_helper (helpers_of w) 0 at.place at.number q.site on.pipeline found in
       let n = node_of w at spot in
       let same : f.at ≡ h.number = (let e = f.number_is in let g = on.number in omega (arith, e, g)) in
-      let handing : ◌≡◌ {A = Handing} on.handing (record { number = h.number; direction = f.helper.direction }) =
-      ap (λ (k : ℕ). record { number = k; direction = on.handing.direction }) (sym on.number) ∙ ap (λ (z : Point). record { number = h.number; direction = z }) (sym f.direction_is) in
+      let pipeline : ◌≡◌ {A = Pipeline} on.pipeline (record { number = h.number; direction = f.helper.direction }) =
+      ap (λ (k : ℕ). record { number = k; direction = on.pipeline.direction }) (sym on.number) ∙ ap (λ (z : Point). record { number = h.number; direction = z }) (sym f.direction_is) in
       let whole : slice_get (references (view at.piece.now.tree)) q.site ≡ Some (record { place = r.place; map = r.map_is }) =
       subst (IsPlaceBy (signatures s) (references (view at.piece.now.tree)) q) r.tree (known w is at spot on.site placed) in (
         at,
@@ -152,7 +152,7 @@ module _ (w : ArrayMade) (is : IsArray w) (p : ℕ) (pieces : Pieces) (are : Are
           helps = record {
             is_helper = subst (λ (k : ℕ). slice_get (helpers_of w) k ≡ Some f.helper) same f.is_helper;
             is_first = ap (λ (k : ℕ). helper_at (helpers_of w) k f.helper.piece f.helper.site) f.var_is ∙ ap (λ (k : ℕ). helper_at (helpers_of w) at.place k f.helper.site) f.piece_is
-                ∙ ap (λ (k : ℕ). helper_at (helpers_of w) at.place at.number k) f.site_is ∙ found ∙ ap (λ (x : Handing). Some x) handing;
+                ∙ ap (λ (k : ℕ). helper_at (helpers_of w) at.place at.number k) f.site_is ∙ found ∙ ap (λ (x : Pipeline). Some x) pipeline;
             is_variable = ap (slice_get s.variables) f.var_is ∙ n.variable;
             is_node = n.node;
             is_piece = ap (slice_get (view_variable at.var.now).pieces) f.piece_is ∙ spot.is_piece;
@@ -166,7 +166,7 @@ module _ (w : ArrayMade) (is : IsArray w) (p : ℕ) (pieces : Pieces) (are : Are
       )
 
   -- whichever way the helper is told
-  module _ (h : HelperPlan) (on : IsFromPlace pieces h) (at : SpotMade) (e : IsHelped h at on.site on.handing) (other : Helper) (v : Variable) (piece : Piece) (r : Reference) (it : IsHelper (seen w) h.number other v piece r) where
+  module _ (h : HelperPlan) (on : IsFromPlace pieces h) (at : SpotMade) (e : IsHelped h at on.site on.pipeline) (other : Helper) (v : Variable) (piece : Piece) (r : Reference) (it : IsHelper (seen w) h.number other v piece r) where
     same : e.helper ≡ other
     same = some_is e.helper other (sym e.helps.is_helper ∙ it.is_helper)
 
@@ -195,17 +195,17 @@ module _ (w : ArrayMade) (is : IsArray w) (p : ℕ) (pieces : Pieces) (are : Are
     pub tree_is : view on.site.place.tree ≡ reference r.place r.map
     tree_is = e.tree ∙ ap (λ (x : Reference). reference x.place x.map) read_is
 
-    pub handing_is : ◌≡◌ {A = Handing} on.handing (record { number = h.number; direction = other.direction })
-    handing_is = ap (λ (k : ℕ). record { number = k; direction = on.handing.direction }) (sym on.number) ∙ ap (λ (z : Point). record { number = h.number; direction = z }) (sym e.direction ∙ ap (λ (k : Helper). k.direction) same)
+    pub pipeline_is : ◌≡◌ {A = Pipeline} on.pipeline (record { number = h.number; direction = other.direction })
+    pipeline_is = ap (λ (k : ℕ). record { number = k; direction = on.pipeline.direction }) (sym on.number) ∙ ap (λ (z : Point). record { number = h.number; direction = z }) (sym e.direction ∙ ap (λ (k : Helper). k.direction) same)
 
     -- the moments of the place are those of the helper
-    pub moments_are : (count : ℕ → ℕ) (lanes : Lanes) (order : List ℕ) (found : HandMoments) → AreHandMomentsTo (seen w) count lanes (spot_of at) on.site.place.site on.handing (view on.site.place.tree) at.slots order (length order) found
-        → AreHandMomentsTo (seen w) count lanes (helper_spot (seen w) other v piece p) other.site (record { number = h.number; direction = other.direction }) (reference r.place r.map) at.slots order (length order) found
+    pub moments_are : (count : ℕ → ℕ) (lanes : Lanes) (order : List ℕ) (found : PipelineMoments) → ArePipelineMomentsTo (seen w) count lanes (spot_of at) on.site.place.site on.pipeline (view on.site.place.tree) at.slots order (length order) found
+        → ArePipelineMomentsTo (seen w) count lanes (helper_spot (seen w) other v piece p) other.site (record { number = h.number; direction = other.direction }) (reference r.place r.map) at.slots order (length order) found
     moments_are count lanes order found m =
-        subst (λ (x : Spot). AreHandMomentsTo (seen w) count lanes x other.site (record { number = h.number; direction = other.direction }) (reference r.place r.map) at.slots order (length order) found) spot_is
-        (subst (λ (i : ℕ). AreHandMomentsTo (seen w) count lanes (spot_of at) i (record { number = h.number; direction = other.direction }) (reference r.place r.map) at.slots order (length order) found) site_is
-        (subst (λ (t : Tree). AreHandMomentsTo (seen w) count lanes (spot_of at) on.site.place.site (record { number = h.number; direction = other.direction }) t at.slots order (length order) found) tree_is
-        (subst (λ (x : Handing). AreHandMomentsTo (seen w) count lanes (spot_of at) on.site.place.site x (view on.site.place.tree) at.slots order (length order) found) handing_is m)))
+        subst (λ (x : Spot). ArePipelineMomentsTo (seen w) count lanes x other.site (record { number = h.number; direction = other.direction }) (reference r.place r.map) at.slots order (length order) found) spot_is
+        (subst (λ (i : ℕ). ArePipelineMomentsTo (seen w) count lanes (spot_of at) i (record { number = h.number; direction = other.direction }) (reference r.place r.map) at.slots order (length order) found) site_is
+        (subst (λ (t : Tree). ArePipelineMomentsTo (seen w) count lanes (spot_of at) on.site.place.site (record { number = h.number; direction = other.direction }) t at.slots order (length order) found) tree_is
+        (subst (λ (x : Pipeline). ArePipelineMomentsTo (seen w) count lanes (spot_of at) on.site.place.site x (view on.site.place.tree) at.slots order (length order) found) pipeline_is m)))
 
     -- and so are its computations
     pub slots_are : AreSpotSlots (seen w) (helper_spot (seen w) other v piece p) at.slots

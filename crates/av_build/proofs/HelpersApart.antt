@@ -6,11 +6,11 @@ use Rattle.av_base.proofs.Lists.{get_cases, get_mapped, some_is}
 use Rattle.av_flat.specs.declared.timed.Helper.{Helper}
 use Rattle.av_flat.specs.Trees.{view}
 use Rattle.av_space.specs.declared.array.Array.{Array as ArrayMade}
-use Rattle.av_space.specs.declared.spots.Site.{Site as PlaceMade}
+use Rattle.av_space.specs.declared.spots.Site.{Site}
 use Rattle.av_space.specs.declared.spots.Spot.{Spot as SpotMade}
 use Rattle.av_space.specs.Sites.{place_of}
 use Rattle.av_space.specs.Spots.{IsArray}
-use Rattle.av_space.specs.Taps.{Handing, Place, places_in}
+use Rattle.av_space.specs.Taps.{Pipeline, ReadingPlace, places_in}
 use Rattle.av_space.proofs.ByPlace.{pair_at}
 use Rattle.av_kinds.specs.Programs.{AreInTurn}
 use Rattle.av_build.specs.declared.blueprint.CellPlan.{CellPlan}
@@ -24,9 +24,9 @@ use Rattle.av_build.proofs.PlaceNumbers.{one_reference}
 
 -- ---- one helper of each place
 
-one_site : (k i : ℕ) (sites : List PlaceMade) (x y : ℕ) (g h : HelperPlan) → slice_get (site_helpers k i sites) x ≡ Some g → slice_get (site_helpers k i sites) y ≡ Some h → g.site ≡ h.site → x ≡ y
+one_site : (k i : ℕ) (sites : List Site) (x y : ℕ) (g h : HelperPlan) → slice_get (site_helpers k i sites) x ≡ Some g → slice_get (site_helpers k i sites) y ≡ Some h → g.site ≡ h.site → x ≡ y
 one_site k i [] x y g h is_g is_h e = absurd cc
-one_site k i (site ∷ sites) x y g h is_g is_h e = by_handing site.handing x y is_g is_h (λ a b at_a at_b. one_site k (suc i) sites a b g h at_a at_b e)
+one_site k i (site ∷ sites) x y g h is_g is_h e = by_pipeline site.pipeline x y is_g is_h (λ a b at_a at_b. one_site k (suc i) sites a b g h at_a at_b e)
   where
     rest : List HelperPlan
     rest = site_helpers k (suc i) sites
@@ -35,16 +35,16 @@ one_site k i (site ∷ sites) x y g h is_g is_h e = by_handing site.handing x y 
     later : (q : HelperPlan) (a : ℕ) → slice_get rest a ≡ Some q → i < q.site
     later q a at = let r = of_place k (suc i) sites a q at in let f = r.site_is in omega (arith, f)
 
-    by_handing : (o : Option Handing) (x y : ℕ) → slice_get (with_helper k i o rest) x ≡ Some g → slice_get (with_helper k i o rest) y ≡ Some h → ((a b : ℕ) → slice_get rest a ≡ Some g → slice_get rest b ≡ Some h → a ≡ b) → x ≡ y
-    by_handing None x y at_g at_h go = go x y at_g at_h
-    by_handing (Some q) zero zero at_g at_h go = refl
-    by_handing (Some q) zero (suc y) at_g at_h go =
+    by_pipeline : (o : Option Pipeline) (x y : ℕ) → slice_get (with_helper k i o rest) x ≡ Some g → slice_get (with_helper k i o rest) y ≡ Some h → ((a b : ℕ) → slice_get rest a ≡ Some g → slice_get rest b ≡ Some h → a ≡ b) → x ≡ y
+    by_pipeline None x y at_g at_h go = go x y at_g at_h
+    by_pipeline (Some q) zero zero at_g at_h go = refl
+    by_pipeline (Some q) zero (suc y) at_g at_h go =
         absurd (let f = ap (λ (p : HelperPlan). p.site) (some_is (record { number = q.number; piece = k; site = i }) g at_g) in let l = later h y at_h in omega (arith, f, l, e))
-    by_handing (Some q) (suc x) zero at_g at_h go =
+    by_pipeline (Some q) (suc x) zero at_g at_h go =
         absurd (let f = ap (λ (p : HelperPlan). p.site) (some_is (record { number = q.number; piece = k; site = i }) h at_h) in let l = later g x at_g in omega (arith, f, l, e))
-    by_handing (Some q) (suc x) (suc y) at_g at_h go = ap suc (go x y at_g at_h)
+    by_pipeline (Some q) (suc x) (suc y) at_g at_h go = ap suc (go x y at_g at_h)
 
-one_place : (k : ℕ) (pieces : List (List PlaceMade)) (x y : ℕ) (g h : HelperPlan) → slice_get (helpers_from k pieces) x ≡ Some g → slice_get (helpers_from k pieces) y ≡ Some h → g.piece ≡ h.piece → g.site ≡ h.site → x ≡ y
+one_place : (k : ℕ) (pieces : List (List Site)) (x y : ℕ) (g h : HelperPlan) → slice_get (helpers_from k pieces) x ≡ Some g → slice_get (helpers_from k pieces) y ≡ Some h → g.piece ≡ h.piece → g.site ≡ h.site → x ≡ y
 one_place k [] x y g h is_g is_h e f = absurd cc
 one_place k (sites ∷ pieces) x y g h is_g is_h e f = elim (get_cases (site_helpers k 0 sites) (helpers_from (suc k) pieces) x g is_g) [
   | inl a ↦ elim (get_cases (site_helpers k 0 sites) (helpers_from (suc k) pieces) y h is_h) [
@@ -95,9 +95,9 @@ module _ (w : ArrayMade) (is : IsArray w) (p : ℕ) (pieces : Pieces) (are : Are
       let own : a.sites ≡ b.sites = some_is a.sites b.sites (sym a.are_sites ∙ ap (λ (i : ℕ). slice_get pieces.sites i) piece ∙ b.are_sites) in
       let listed = are.sites h.piece v.0 b.sites v.1.is_spot b.are_sites in
       let at_a : slice_get (places_in v.0.number 0 (view v.0.piece.now.tree)) g.site ≡ Some (place_of a.site.place) =
-      ap (λ (ps : List Place). slice_get ps g.site) (sym listed.places) ∙ get_mapped (λ (s : PlaceMade). place_of s.place) b.sites g.site a.site (ap (λ (l : List PlaceMade). slice_get l g.site) (sym own) ∙ a.is_site) in
+      ap (λ (ps : List ReadingPlace). slice_get ps g.site) (sym listed.places) ∙ get_mapped (λ (s : Site). place_of s.place) b.sites g.site a.site (ap (λ (l : List Site). slice_get l g.site) (sym own) ∙ a.is_site) in
       let at_b : slice_get (places_in v.0.number 0 (view v.0.piece.now.tree)) h.site ≡ Some (place_of b.site.place) =
-      ap (λ (ps : List Place). slice_get ps h.site) (sym listed.places) ∙ get_mapped (λ (s : PlaceMade). place_of s.place) b.sites h.site b.site b.is_site in
+      ap (λ (ps : List ReadingPlace). slice_get ps h.site) (sym listed.places) ∙ get_mapped (λ (s : Site). place_of s.place) b.sites h.site b.site b.is_site in
       let site = one_reference v.0.number (view v.0.piece.now.tree) g.site h.site (place_of a.site.place) (place_of b.site.place) u.1.place v.1.place u.1.map_is v.1.map_is at_a at_b u.1.tree v.1.tree sites in
       one_place 0 pieces.sites x y g h is_g is_h piece site
 

@@ -1,7 +1,7 @@
 pub mod Appended
 pub mod Pairwise
-pub mod IntervalLemmas
-pub mod IntervalSteps
+pub mod WindowLemmas
+pub mod WindowSteps
 pub mod ModeLemmas
 pub mod SiteLemmas
 pub mod SiteSteps
@@ -14,8 +14,8 @@ pub mod CellUses
 pub mod OriginCells
 pub mod PlaceSources
 pub mod PlaceSites
-pub mod HandSteps
-pub mod HandModes
+pub mod PipelineSteps
+pub mod PipelineModes
 pub mod BlueprintLemmas
 pub mod BlueprintSteps
 pub mod HelpersOn
@@ -29,7 +29,7 @@ pub mod PlaceNumbers
 pub mod HelpersApart
 pub mod SeenArray
 pub mod Handovers
-pub mod HandPushes
+pub mod PipelinePushes
 pub mod SpotsOn
 pub mod ValueSites
 pub mod PieceWorks

@@ -1,4 +1,4 @@
--- The intervals of marks are active at the numbers of just those computations that are marked.
+-- The windows of marks are active at the numbers of just those computations that are marked.
 use Rattle.std.proofs.Common.{◌≡◌, ℕ, zero, suc, ◌≤◌, ◌↔◌, List, [], ◌∷◌, length, refl, sym, ap, subst, ◌∙◌, arith, true, Some}
 use Rattle.std.specs.Prelude.{slice_get}
 use Rattle.std.specs.List.{list_any}
@@ -7,31 +7,31 @@ use Rattle.av_tree.specs.Points.{Point}
 use Rattle.av_space.specs.declared.layout.Slot.{Slot}
 use Rattle.av_kinds.specs.Programs.{has_number, Work}
 use Rattle.av_history.specs.Performing.{Array, ComputesOn}
-use Rattle.av_build.specs.declared.intervals.Mark.{Mark}
-use Rattle.av_build.specs.inner.Intervals.{intervals_by}
+use Rattle.av_build.specs.declared.windows.CounterMark.{CounterMark}
+use Rattle.av_build.specs.inner.Windows.{windows_by}
 use Rattle.av_build.specs.inner.Orders.{IsInOrder, AreMarks}
 use Rattle.av_build.specs.inner.Programmed.{IsModeFor}
-use Rattle.av_build.proofs.IntervalLemmas.{AreRising, above_at, holds_there, there_holds, ends_are}
-use Rattle.av_build.proofs.IntervalSteps.{slot_of, rising, mark_of}
+use Rattle.av_build.proofs.WindowLemmas.{AreRising, above_at, holds_there, there_holds, ends_are}
+use Rattle.av_build.proofs.WindowSteps.{slot_of, rising, mark_of}
 
 -- ---- one number has one mark
 
-pub same_place : (marks : List Mark) → AreRising marks → (i j : ℕ) (t u : Mark) → slice_get marks i ≡ Some t → slice_get marks j ≡ Some u → t.number ≡ u.number → i ≡ j
+pub same_place : (marks : List CounterMark) → AreRising marks → (i j : ℕ) (t u : CounterMark) → slice_get marks i ≡ Some t → slice_get marks j ≡ Some u → t.number ≡ u.number → i ≡ j
 same_place [] up i j t u is_t is_u e = absurd cc
 same_place (m ∷ marks) up zero zero t u is_t is_u e = refl
-same_place (m ∷ marks) up zero (suc j) t u is_t is_u e = absurd (let l = above_at m.number marks up.0 j u is_u in let f = ap (λ (v : Mark). v.number) (some_is m t is_t) in omega (arith, l, f, e))
-same_place (m ∷ marks) up (suc i) zero t u is_t is_u e = absurd (let l = above_at m.number marks up.0 i t is_t in let f = ap (λ (v : Mark). v.number) (some_is m u is_u) in omega (arith, l, f, e))
+same_place (m ∷ marks) up zero (suc j) t u is_t is_u e = absurd (let l = above_at m.number marks up.0 j u is_u in let f = ap (λ (v : CounterMark). v.number) (some_is m t is_t) in omega (arith, l, f, e))
+same_place (m ∷ marks) up (suc i) zero t u is_t is_u e = absurd (let l = above_at m.number marks up.0 i t is_t in let f = ap (λ (v : CounterMark). v.number) (some_is m u is_u) in omega (arith, l, f, e))
 same_place (m ∷ marks) up (suc i) (suc j) t u is_t is_u e = ap suc (same_place marks up.1 i j t u is_t is_u e)
 
 -- ---- computations of a cell that stand in the order of the counter's numbers
 
 module _ (count : ℕ → ℕ) (slots : List Slot) (order : List ℕ) (in_order : IsInOrder count slots order) where
   -- a mode is active at a computation just where the computation is marked
-  module _ (P : Slot → Type 0) (marks : List Mark) (are : AreMarks count slots order P (length order) marks) where
+  module _ (P : Slot → Type 0) (marks : List CounterMark) (are : AreMarks count slots order P (length order) marks) where
     up : AreRising marks
     up = rising count slots order P in_order marks are
 
-    pub if_active : (k : ℕ) (slot : Slot) → slice_get slots k ≡ Some slot → list_any (has_number (count slot.cycle)) (intervals_by marks) ≡ true → P slot
+    pub if_active : (k : ℕ) (slot : Slot) → slice_get slots k ≡ Some slot → list_any (has_number (count slot.cycle)) (windows_by marks) ≡ true → P slot
     if_active k slot is e =
         let own = mark_of count slots order P in_order marks are k slot is in
         let found = holds_there marks up (count slot.cycle) e in
@@ -40,12 +40,12 @@ module _ (count : ℕ → ℕ) (slots : List Slot) (order : List ℕ) (in_order 
         let number = own.3 in
         let place = same_place marks up own.0 found.1.index own.1 found.0 own.2 found.1.is_there (omega (arith, high, low, number)) in
         let same : own.1 ≡ found.0 = some_is own.1 found.0 (sym own.2 ∙ ap (λ (i : ℕ). slice_get marks i) place ∙ found.1.is_there) in
-        own.4.0 (ap (λ (m : Mark). m.holds) same ∙ found.2)
+        own.4.0 (ap (λ (m : CounterMark). m.holds) same ∙ found.2)
 
-    pub active_if : (k : ℕ) (slot : Slot) → slice_get slots k ≡ Some slot → P slot → list_any (has_number (count slot.cycle)) (intervals_by marks) ≡ true
+    pub active_if : (k : ℕ) (slot : Slot) → slice_get slots k ≡ Some slot → P slot → list_any (has_number (count slot.cycle)) (windows_by marks) ≡ true
     active_if k slot is holds =
         let own = mark_of count slots order P in_order marks are k slot is in
-        subst (λ (n : ℕ). list_any (has_number n) (intervals_by marks) ≡ true) own.3 (there_holds marks up own.0 own.1 own.2 (own.4.1 holds))
+        subst (λ (n : ℕ). list_any (has_number n) (windows_by marks) ≡ true) own.3 (there_holds marks up own.0 own.1 own.2 (own.4.1 holds))
 
     -- at a number at which it is active, the last computation up to there is marked
     pub record IsLatestSlot (x : ℕ) : Type 0 where
@@ -56,7 +56,7 @@ module _ (count : ℕ → ℕ) (slots : List Slot) (order : List ℕ) (in_order 
       pub last : (k : ℕ) (other : Slot) → slice_get slots k ≡ Some other → count other.cycle ≤ x → count other.cycle ≤ count slot.cycle
       pub marked : P slot
 
-    pub latest : (x : ℕ) → list_any (has_number x) (intervals_by marks) ≡ true → IsLatestSlot x
+    pub latest : (x : ℕ) → list_any (has_number x) (windows_by marks) ≡ true → IsLatestSlot x
     latest x e =
         let found = holds_there marks up x e in
         let own = slot_of count slots order P in_order marks are found.1.index found.0 found.1.is_there in
@@ -85,7 +85,7 @@ module _ (a : Array) (count : ℕ → ℕ) (p : ℕ) (slots : List Slot) (order 
   abbrev Ending : ℕ → Type 0
   Ending x = (c : ℕ) × (n : ℕ) × (z : Point) × ComputesOn a p c n z × (x ≡ count c)
 
-  pub mode_for : (marks : List Mark) → AreMarks count slots order P (length order) marks → (work : Work) → IsModeFor a count p R Q (record { intervals = intervals_by marks; work = work })
+  pub mode_for : (marks : List CounterMark) → AreMarks count slots order P (length order) marks → (work : Work) → IsModeFor a count p R Q (record { windows = windows_by marks; work = work })
   mode_for marks are work = record {
     numbers = λ c n z computes read.
         let k = all c n z computes read in
@@ -105,10 +105,10 @@ module _ (a : Array) (count : ℕ → ℕ) (p : ℕ) (slots : List Slot) (order 
           low = l.low;
           last = λ c n z computes read le. let k = all c n z computes read in l.last k.0 (record { cycle = c; point = z }) k.1 le;
         };
-    ends = ends_are Ending marks (each_by_place (λ (m : Mark). Ending m.number) marks (λ i m is. ending i m is));
+    ends = ends_are Ending marks (each_by_place (λ (m : CounterMark). Ending m.number) marks (λ i m is. ending i m is));
   }
     where
-      ending : (i : ℕ) (m : Mark) → slice_get marks i ≡ Some m → Ending m.number
+      ending : (i : ℕ) (m : CounterMark) → slice_get marks i ≡ Some m → Ending m.number
       ending i m is =
           let own = slot_of count slots order P in_order marks are i m is in
           let computes = each own.1.place own.0 own.1.is_slot in

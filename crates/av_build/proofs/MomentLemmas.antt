@@ -9,22 +9,22 @@ use Rattle.av_tree.specs.Points.{Point}
 use Rattle.av_flat.specs.Points.{has}
 use Rattle.av_space.specs.declared.layout.Slot.{Slot}
 use Rattle.av_space.proofs.Elements.{in_range}
-use Rattle.av_kinds.specs.declared.program.Source.{Source}
-use Rattle.av_kinds.specs.declared.program.Source.TheVariants.{Word}
-use Rattle.av_kinds.specs.declared.program.Link.{Link}
+use Rattle.av_kinds.specs.declared.program.WordSource.{WordSource}
+use Rattle.av_kinds.specs.declared.program.WordSource.TheVariants.{Word}
+use Rattle.av_kinds.specs.declared.program.Selection.{Selection}
 use Rattle.av_kinds.specs.declared.program.Inlet.{Inlet}
 use Rattle.av_kinds.specs.Programs.{source_by}
 use Rattle.av_history.specs.Performing.{Array, ComputesOn, Spot}
 use Rattle.av_build.specs.declared.moments.Moment.{Moment}
-use Rattle.av_build.specs.inner.Moments.{links_from, last_from, site_by}
+use Rattle.av_build.specs.inner.Moments.{selections_from, last_from, site_by}
 use Rattle.av_build.specs.inner.Orders.{IsInOrder, IsAt, IsMoment, AreMomentsTo, AreMoments}
 use Rattle.av_build.specs.inner.Programmed.{IsRight, IsSiteFor}
 use Rattle.av_build.proofs.Appended.{get_right}
-use Rattle.av_build.proofs.SiteLemmas.{AreAscending, moment_taken, links_are, last_is}
+use Rattle.av_build.proofs.SiteLemmas.{AreAscending, moment_taken, selections_are, last_is}
 
 -- ---- one computation after another
 
-module _ (count : ℕ → ℕ) (slots : List Slot) (order : List ℕ) (R : Point → Type 0) (P : Point → ℕ → Source → Type 0) where
+module _ (count : ℕ → ℕ) (slots : List Slot) (order : List ℕ) (R : Point → Type 0) (P : Point → ℕ → WordSource → Type 0) where
   pub no_moments : AreMomentsTo count slots order R P 0 []
   no_moments = record {
     each = λ k t is. absurd cc;
@@ -119,18 +119,18 @@ pub record AreSpotSlots (a : Array) (at : Spot) (slots : List Slot) : Type 0 whe
   pub each : (k : ℕ) (slot : Slot) → slice_get slots k ≡ Some slot → ComputesOn a at.cell slot.cycle at.node slot.point × IsTrue (has at.piece.domain slot.point)
   pub all : (c : ℕ) (z : Point) → ComputesOn a at.cell c at.node z → IsTrue (has at.piece.domain z) → Contains slots (record { cycle = c; point = z })
 
-module _ (a : Array) (count : ℕ → ℕ) (at : Spot) (slots : List Slot) (are_slots : AreSpotSlots a at slots) (order : List ℕ) (in_order : IsInOrder count slots order) (R : Point → Type 0) (P : Point → ℕ → Source → Type 0) where
+module _ (a : Array) (count : ℕ → ℕ) (at : Spot) (slots : List Slot) (are_slots : AreSpotSlots a at slots) (order : List ℕ) (in_order : IsInOrder count slots order) (R : Point → Type 0) (P : Point → ℕ → WordSource → Type 0) where
   -- a number with a source that is right at a computation with this number
-  abbrev Tells : ℕ → Source → Type 0
+  abbrev Tells : ℕ → WordSource → Type 0
   Tells n source = (c : ℕ) × (z : Point) × ComputesOn a at.cell c at.node z × IsTrue (has at.piece.domain z) × R z × P z c source × (n ≡ count c)
 
   told : (n : ℕ) (t : Moment) → IsMoment count slots order R P n t → Tells t.number t.source
   told n t m = let s = are_slots.each m.is_at.place m.slot m.is_at.is_slot in (m.slot.cycle, m.slot.point, s.0, s.1, m.read, m.source, m.number)
 
-  right : (n : ℕ) (source : Source) → Tells n source → (source ≡ Word 0) ⊎ IsRight a at R P source
+  right : (n : ℕ) (source : WordSource) → Tells n source → (source ≡ Word 0) ⊎ IsRight a at R P source
   right n source (c, z, computes, inside, read, is, number) = inr (c, z, computes, inside, read, is)
 
-  ending : (n : ℕ) (source : Source) → Tells n source → (c : ℕ) × (z : Point) × ComputesOn a at.cell c at.node z × (n ≡ count c)
+  ending : (n : ℕ) (source : WordSource) → Tells n source → (c : ℕ) × (z : Point) × ComputesOn a at.cell c at.node z × (n ≡ count c)
   ending n source (c, z, computes, inside, read, is, number) = (c, z, computes, number)
 
   -- the moment of a computation that is read
@@ -155,17 +155,17 @@ module _ (a : Array) (count : ℕ → ℕ) (at : Spot) (slots : List Slot) (are_
       let up = ascending (t ∷ moments) h.rises in
       let here : Tells t.number t.source = told (length order) t (h.each 0 t refl) in
       let later : AllByRecursion (λ (u : Moment). Tells u.number u.source) moments = each_by_place (λ (u : Moment). Tells u.number u.source) moments (λ k u is. told (length order) u (h.each (suc k) u is)) in
-      let links = links_are Tells t moments here later in
+      let selections = selections_are Tells t moments here later in
       let last = last_is Tells t moments here later in
       record {
         each = (
-          each_weaker (λ (l : Link). Tells l.last l.source) (λ (l : Link). (l.source ≡ Word 0) ⊎ IsRight a at R P l.source) (λ l told. right l.last l.source told) (links_from t moments) links,
+          each_weaker (λ (l : Selection). Tells l.last l.source) (λ (l : Selection). (l.source ≡ Word 0) ⊎ IsRight a at R P l.source) (λ l told. right l.last l.source told) (selections_from t moments) selections,
           right last.0 (last_from t moments) last.1,
         );
-        lasts = each_weaker (λ (l : Link). Tells l.last l.source) (λ (l : Link). (c : ℕ) × (z : Point) × ComputesOn a at.cell c at.node z × (l.last ≡ count c)) (λ l told. ending l.last l.source told) (links_from t moments) links;
+        lasts = each_weaker (λ (l : Selection). Tells l.last l.source) (λ (l : Selection). (c : ℕ) × (z : Point) × ComputesOn a at.cell c at.node z × (l.last ≡ count c)) (λ l told. ending l.last l.source told) (selections_from t moments) selections;
         all = λ c z computes inside read.
             let m = moment_of (t ∷ moments) h c z computes inside read in
             let taken = moment_taken t moments up m.0 m.1 m.2 in
-            let at_number : source_by (count c) (last_from t moments) (links_from t moments) ≡ m.1.source = subst (λ (n : ℕ). source_by n (last_from t moments) (links_from t moments) ≡ m.1.source) m.3 taken in
+            let at_number : source_by (count c) (last_from t moments) (selections_from t moments) ≡ m.1.source = subst (λ (n : ℕ). source_by n (last_from t moments) (selections_from t moments) ≡ m.1.source) m.3 taken in
             subst (P z c) (sym at_number) m.4;
       }

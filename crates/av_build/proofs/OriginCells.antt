@@ -11,7 +11,7 @@ use Rattle.av_space.specs.declared.origin.Origin.TheVariants as origin
 use Rattle.av_space.specs.declared.spots.Spot.{Spot as SpotMade}
 use Rattle.av_space.specs.Links.{IsStretch}
 use Rattle.av_space.specs.Spots.{system_of, helpers_of, placings_of, cells_of, IsArray, IsLinkedBy, over_link, IsPickOrigin, IsOriginBy, own_way}
-use Rattle.av_space.specs.Taps.{Handing, Place, each, Tap}
+use Rattle.av_space.specs.Taps.{Pipeline, ReadingPlace, each, Tap}
 use Rattle.av_space.proofs.Elements.{in_range}
 
 pub producer_in : (w : ArrayMade) → IsArray w → (at : SpotMade) (c : ℕ) (tap : Tap) (q d : ℕ) → IsLinkedBy w at c tap q d → q < length (cells_of w)
@@ -26,7 +26,7 @@ abbrev cell_in : Origin → ℕ
 cell_in (origin.Value q d) = q
 cell_in _ = 0
 
-module _ (w : ArrayMade) (is : IsArray w) (at : SpotMade) (t : Slot) (p : Place) (h : Option Handing) (q d : ℕ) where
+module _ (w : ArrayMade) (is : IsArray w) (at : SpotMade) (t : Slot) (p : ReadingPlace) (h : Option Pipeline) (q d : ℕ) where
   by_pick : (place n : ℕ) (o : Option Point) → IsPickOrigin w at t.cycle p place n o (origin.Value q d) → q < length (cells_of w)
   by_pick place n None e = absurd cc
   by_pick place n (Some y) (a, b, read, is_read, node, l, e) =

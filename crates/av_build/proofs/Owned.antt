@@ -22,11 +22,11 @@ use Rattle.av_space.specs.Taps.{Way, each, handed, IsTapRead, helper_of}
 use Rattle.av_space.specs.Links.{line_length}
 use Rattle.av_space.proofs.Elements.{in_range}
 use Rattle.av_space.proofs.NodePlaces.{node_at}
-use Rattle.av_kinds.specs.declared.program.Source.{Source}
-use Rattle.av_kinds.specs.declared.program.Source.TheVariants.{Word, Input, Line}
+use Rattle.av_kinds.specs.declared.program.WordSource.{WordSource}
+use Rattle.av_kinds.specs.declared.program.WordSource.TheVariants.{Word, Input, Line}
 use Rattle.av_kinds.specs.Programs.{Lane, Program, IsSource}
 use Rattle.av_history.specs.Widths.{width_of, width_at}
-use Rattle.av_history.specs.Performing.{Array, ComputesOn, Lanes, Spot, IsLinked, IsReferenceSource, by_port, by_link, IsHandSource, IsPickSource, IsHelper}
+use Rattle.av_history.specs.Performing.{Array, ComputesOn, Lanes, Spot, IsLinked, IsReferenceSource, by_port, by_link, IsPipelineSource, IsPickSource, IsHelper}
 use Rattle.av_history.specs.Arranged.{IsArranged}
 use Rattle.av_history.proofs.Serving.{Reading, linked}
 use Rattle.av_build.specs.inner.Programmed.{IsProgramFor}
@@ -34,14 +34,14 @@ use Rattle.av_build.specs.inner.Built.{HasPorts}
 use Rattle.av_build.proofs.Lengths.{long_enough}
 
 -- a source of the cell p, with words of the width
-abbrev pub IsOwned : Array → Program → Width → ℕ → Source → Type 0
+abbrev pub IsOwned : Array → Program → Width → ℕ → WordSource → Type 0
 IsOwned a program w p (Word n) = IsWord w.bits n
 IsOwned a program w p (Input k) = (slice_get program.inputs k ≡ Some w) × ((port : InPort) × (slice_get a.ports k ≡ Some port) × (port.cell ≡ p))
 IsOwned a program w p (Line q d) =
     ((lane : Lane) × (slice_get program.lanes q ≡ Some lane) × (lane.width ≡ w) × (d ≤ lane.length) × (0 < d))
     × ((lane : Lane) × (slice_get program.lanes q ≡ Some lane) × ((l : LinkMade) × Contains a.links l × (l.consumer ≡ p) × (l.producer ≡ lane.home)))
 
-pub is_source : (a : Array) (program : Program) (w : Width) (p : ℕ) (source : Source) → IsOwned a program w p source → IsSource program w source
+pub is_source : (a : Array) (program : Program) (w : Width) (p : ℕ) (source : WordSource) → IsOwned a program w p source → IsSource program w source
 is_source a program w p (Word n) h = h
 is_source a program w p (Input k) h = h.0
 is_source a program w p (Line q d) h = h.0
@@ -68,7 +68,7 @@ module _ (a : Array) (count : ℕ → ℕ) (lanes : Lanes) (program : Program) (
       link_owned w at c z r site tree way producer delay l f.some (lanes.of_value producer) there.2.0 there.2.1 lane.home_is (lane.width_is ∙ wide) (lane.length_is ∙ ap (line_length a.system a.helpers a.cells a.links producer) (sym plain))
 
   pub reference_owned : (w : Width) (at : Spot) (c : ℕ) (z : Point) → Reading a at c z → (i place : ℕ) (m : Map) (way : Way) → helper_of way ≡ None → w.bits ≡ width_at a.system place
-      → IsTapRead a.system at.node (reference place m) way at.piece z (number_at a.system place) (image m.rows z) → (source : Source) → IsReferenceSource a lanes at c i place m way source → IsOwned a program w at.cell source
+      → IsTapRead a.system at.node (reference place m) way at.piece z (number_at a.system place) (image m.rows z) → (source : WordSource) → IsReferenceSource a lanes at c i place m way source → IsOwned a program w at.cell source
   reference_owned w at c z r i place m way plain wide reads source (by_port n read is_read is_in is_reference is_port) =
       let low = in_range a.ports n (record { cell = at.cell; piece = at.number; site = i }) is_port in
       let many = ports.one_each in
@@ -80,10 +80,10 @@ module _ (a : Array) (count : ℕ → ℕ) (lanes : Lanes) (program : Program) (
       value_owned w at c z r i (reference place m) way producer delay l plain place (image m.rows z) read is_read node bits reads
 
   -- a helper's word, by whether the point before is in the set
-  pub hand_owned : (w : Width) (j : ℕ) (h : Helper) (at : Spot) (read : Reference) → IsHelper a j h at.variable at.piece read → at.node ≡ number_at a.system h.var
+  pub pipeline_owned : (w : Width) (j : ℕ) (h : Helper) (at : Spot) (read : Reference) → IsHelper a j h at.variable at.piece read → at.node ≡ number_at a.system h.var
       → w.bits ≡ at.variable.width → (c : ℕ) (z : Point) → Reading a at c z → has at.piece.domain (before z h.direction) ≡ true
-      → (source : Source) → IsHandSource a lanes at j h.direction h.site read.place read.map true c source → IsOwned a program w at.cell source
-  hand_owned w j h at read is node wide c z r e source (producer, delay, l, from) =
+      → (source : WordSource) → IsPipelineSource a lanes at j h.direction h.site read.place read.map true c source → IsOwned a program w at.cell source
+  pipeline_owned w j h at read is node wide c z r e source (producer, delay, l, from) =
       let y = before z h.direction in
       let tree = reference read.place read.map in
       let way = handed j h.direction in
@@ -95,7 +95,7 @@ module _ (a : Array) (count : ℕ → ℕ) (lanes : Lanes) (program : Program) (
       (link_owned w at c z r h.site tree way producer delay l f.some (lanes.of_helper j producer) there.4.0 there.4.1 lane.home_is (lane.width_is ∙ sym wide) lane.length_is)
 
   pub pick_owned : (w : Width) (at : Spot) (c : ℕ) (z : Point) → Reading a at c z → (i place : ℕ) (choices : List Choice) (n : ℕ) → IsWord w.bits n → w.bits ≡ width_at a.system place
-      → (o : Option Point) → picked choices z ≡ o → (source : Source) → IsPickSource a lanes at c i place (pick place choices n) n o source → IsOwned a program w at.cell source
+      → (o : Option Point) → picked choices z ≡ o → (source : WordSource) → IsPickSource a lanes at c i place (pick place choices n) n o source → IsOwned a program w at.cell source
   pick_owned w at c z r i place choices n small wide None e source h = subst (IsOwned a program w at.cell) (sym h) small
   pick_owned w at c z r i place choices n small wide (Some y) e source (producer, delay, read, is_read, node, l, is) =
       let bits : read.width ≡ w.bits = sym (wide ∙ ap width_of is_read) in

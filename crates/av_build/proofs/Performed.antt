@@ -9,13 +9,13 @@ use Rattle.av_flat.specs.declared.timed.Helper.{Helper}
 use Rattle.av_flat.specs.Nodes.{nodes, number_at}
 use Rattle.av_flat.specs.Broadcasts.{Reference}
 use Rattle.av_flat.specs.Helped.{before, IsEntry}
-use Rattle.av_kinds.specs.declared.program.Source.{Source}
-use Rattle.av_kinds.specs.declared.program.Source.TheVariants.{Word}
-use Rattle.av_kinds.specs.declared.program.Site.{Site}
+use Rattle.av_kinds.specs.declared.program.WordSource.{WordSource}
+use Rattle.av_kinds.specs.declared.program.WordSource.TheVariants.{Word}
+use Rattle.av_kinds.specs.declared.program.ProgramSite.{ProgramSite}
 use Rattle.av_kinds.specs.Programs.{source_in, Work, Mode, is_active, Lane, Program}
 use Rattle.av_kinds.specs.Histories.{Task, mode_by, task_of, task_in, lane_task, tasks_of}
 use Rattle.av_history.specs.Widths.{read_width}
-use Rattle.av_history.specs.Performing.{Array, ComputesOn, Lanes, Spot, IsHandSource, hand_width, handing_at, IsPlaceSource, IsPieceTask, IsHandTask, IsHelper, helper_spot, Perform}
+use Rattle.av_history.specs.Performing.{Array, ComputesOn, Lanes, Spot, IsPipelineSource, pipeline_width, pipeline_at, IsPlaceSource, IsPieceTask, IsPipelineTask, IsHelper, helper_spot, Perform}
 use Rattle.av_history.proofs.Words.{place_weaker}
 use Rattle.av_build.specs.inner.Programmed.{IsPlaceSite, IsWorkFor, AreAlone, one_site, IsHelperLane, IsProgramFor}
 
@@ -59,21 +59,21 @@ module _ (a : Array) (count : ℕ → ℕ) (lanes : Lanes) (program : Program) (
     tree = is.tree;
     width = wide;
     sources = place_weaker Sited (λ k i t. IsPlaceSource a lanes at z c i t (task.sources k)) (λ k i t s. source k i t s) 0 0 at.piece.tree is.sites;
-    widths = place_weaker Sited (λ k i t. task.widths k ≡ read_width a.system at.variable.width (handing_at a at i) t) (λ k i t s. width k i t s) 0 0 at.piece.tree is.sites;
+    widths = place_weaker Sited (λ k i t. task.widths k ≡ read_width a.system at.variable.width (pipeline_at a at i) t) (λ k i t s. width k i t s) 0 0 at.piece.tree is.sites;
   }
     where
       task : Task
       task = task_of w (count c) work
 
       Sited : ℕ → ℕ → Tree → Type 0
-      Sited k i t = (site : Site) × (slice_get work.sites k ≡ Some site) × IsPlaceSite a count lanes first at i t site
+      Sited k i t = (site : ProgramSite) × (slice_get work.sites k ≡ Some site) × IsPlaceSite a count lanes first at i t site
 
       source : (k i : ℕ) (t : Tree) → Sited k i t → IsPlaceSource a lanes at z c i t (slice_index_or (map (source_in (count c)) work.sites) k (Word 0))
       source k i t (site, is_site, h) =
-          subst (λ (s : Source). IsPlaceSource a lanes at z c i t s) (sym (index_mapped (source_in (count c)) (Word 0) work.sites k site is_site)) (h.reads.all c z computes inside tt)
+          subst (λ (s : WordSource). IsPlaceSource a lanes at z c i t s) (sym (index_mapped (source_in (count c)) (Word 0) work.sites k site is_site)) (h.reads.all c z computes inside tt)
 
-      width : (k i : ℕ) (t : Tree) → Sited k i t → slice_index_or (map (λ (s : Site). s.width.bits) work.sites) k 0 ≡ read_width a.system at.variable.width (handing_at a at i) t
-      width k i t (site, is_site, h) = index_mapped (λ (s : Site). s.width.bits) 0 work.sites k site is_site ∙ h.width
+      width : (k i : ℕ) (t : Tree) → Sited k i t → slice_index_or (map (λ (s : ProgramSite). s.width.bits) work.sites) k 0 ≡ read_width a.system at.variable.width (pipeline_at a at i) t
+      width k i t (site, is_site, h) = index_mapped (λ (s : ProgramSite). s.width.bits) 0 work.sites k site is_site ∙ h.width
 
   values : (p c n : ℕ) (z : Point) (v : Variable) (k : ℕ) (piece : Piece) → ComputesOn a p c n z → slice_get (nodes a.system) n ≡ Some v → slice_get v.pieces k ≡ Some piece → IsTrue (has piece.domain z)
       → (task : Task) × (tasks_of program (lanes.of_value p) (count c) ≡ Some task) × IsPieceTask a lanes (record { cell = p; node = n; variable = v; number = k; piece = piece }) z c task
@@ -96,19 +96,19 @@ module _ (a : Array) (count : ℕ → ℕ) (lanes : Lanes) (program : Program) (
   -- ---- helpers
 
   -- of one place
-  hand_task : (at : Spot) (j : ℕ) (h : Helper) (r : Reference) (w c : ℕ) (z : Point) (site : Site) (work : Work) (inside : Bool) → has at.piece.domain (before z h.direction) ≡ inside → work ≡ one_site site (reference r.place r.map) → w ≡ at.variable.width
-      → site.width.bits ≡ hand_width a.system at.variable.width r.place inside → IsHandSource a lanes at j h.direction h.site r.place r.map inside c (source_in (count c) site) → IsHandTask a lanes at j h r z c (task_of w (count c) work)
-  hand_task at j h r w c z site work inside e is wide read source =
-      let P : Work → Type 0 = λ x. IsHandTask a lanes at j h r z c (task_of w (count c) x) in
+  pipeline_task : (at : Spot) (j : ℕ) (h : Helper) (r : Reference) (w c : ℕ) (z : Point) (site : ProgramSite) (work : Work) (inside : Bool) → has at.piece.domain (before z h.direction) ≡ inside → work ≡ one_site site (reference r.place r.map) → w ≡ at.variable.width
+      → site.width.bits ≡ pipeline_width a.system at.variable.width r.place inside → IsPipelineSource a lanes at j h.direction h.site r.place r.map inside c (source_in (count c) site) → IsPipelineTask a lanes at j h r z c (task_of w (count c) work)
+  pipeline_task at j h r w c z site work inside e is wide read source =
+      let P : Work → Type 0 = λ x. IsPipelineTask a lanes at j h r z c (task_of w (count c) x) in
       subst P (sym is) (record {
         tree = refl;
         width = wide;
-        source = subst (λ (b : Bool). IsHandSource a lanes at j h.direction h.site r.place r.map b c (source_in (count c) site)) (sym e) source;
-        source_width = read ∙ ap (hand_width a.system at.variable.width r.place) (sym e);
+        source = subst (λ (b : Bool). IsPipelineSource a lanes at j h.direction h.site r.place r.map b c (source_in (count c) site)) (sym e) source;
+        source_width = read ∙ ap (pipeline_width a.system at.variable.width r.place) (sym e);
       })
 
   helpers : (j : ℕ) (h : Helper) (v : Variable) (piece : Piece) (r : Reference) → IsHelper a j h v piece r → (p c : ℕ) (z : Point) → ComputesOn a p c (number_at a.system h.var) z → IsTrue (has piece.domain z)
-      → (task : Task) × (tasks_of program (lanes.of_helper j p) (count c) ≡ Some task) × IsHandTask a lanes (helper_spot a h v piece p) j h r z c task
+      → (task : Task) × (tasks_of program (lanes.of_helper j p) (count c) ≡ Some task) × IsPipelineTask a lanes (helper_spot a h v piece p) j h r z c task
   helpers j h v piece r is p c z computes inside =
       let x = g.helpers j h v piece r is p c z computes inside in
       by_place (has piece.domain (before z h.direction)) refl x.4.0 x.4.1 x.4.2
@@ -117,13 +117,13 @@ module _ (a : Array) (count : ℕ → ℕ) (lanes : Lanes) (program : Program) (
       at = helper_spot a h v piece p
 
       by_place : (b : Bool) → has piece.domain (before z h.direction) ≡ b → (lane : Lane) → slice_get program.lanes (lanes.of_helper j p) ≡ Some lane → IsHelperLane a count lanes (helper_spot a h v piece p) j h r lane
-          → (task : Task) × (tasks_of program (lanes.of_helper j p) (count c) ≡ Some task) × IsHandTask a lanes (helper_spot a h v piece p) j h r z c task
+          → (task : Task) × (tasks_of program (lanes.of_helper j p) (count c) ≡ Some task) × IsPipelineTask a lanes (helper_spot a h v piece p) j h r z c task
       by_place true e lane is_lane l =
           let active : is_active (count c) l.own_mode ≡ true = (l.own_numbers.numbers c (number_at a.system h.var) z computes (refl, inside)).1 e in
           let there : slice_get lane.modes 1 ≡ Some l.own_mode = ap (λ (ms : List Mode). slice_get ms 1) l.modes_are in (
             task_of lane.width.bits (count c) l.own_mode.work,
             lane_has_task program (lanes.of_helper j p) (count c) lane l.own_mode is_lane (mode_found (count c) lane.modes l.alone 1 l.own_mode there active),
-            hand_task at j h r lane.width.bits c z l.own_site l.own_mode.work true e l.own_work l.width_is l.own_width (l.own_reads.all c z computes inside e),
+            pipeline_task at j h r lane.width.bits c z l.own_site l.own_mode.work true e l.own_work l.width_is l.own_width (l.own_reads.all c z computes inside e),
           )
       by_place false e lane is_lane l =
           let entry : IsEntry piece.domain h.direction z = (inside, λ f. both_tests (sym f ∙ e)) in
@@ -131,7 +131,7 @@ module _ (a : Array) (count : ℕ → ℕ) (lanes : Lanes) (program : Program) (
           let there : slice_get lane.modes 0 ≡ Some l.entry_mode = ap (λ (ms : List Mode). slice_get ms 0) l.modes_are in (
             task_of lane.width.bits (count c) l.entry_mode.work,
             lane_has_task program (lanes.of_helper j p) (count c) lane l.entry_mode is_lane (mode_found (count c) lane.modes l.alone 0 l.entry_mode there active),
-            hand_task at j h r lane.width.bits c z l.entry_site l.entry_mode.work false e l.entry_work l.width_is l.entry_width (l.entry_reads.all c z computes inside entry),
+            pipeline_task at j h r lane.width.bits c z l.entry_site l.entry_mode.work false e l.entry_work l.width_is l.entry_width (l.entry_reads.all c z computes inside entry),
           )
         where
           both_tests : true ≡ false → ⊥

@@ -6,51 +6,51 @@ use Rattle.std.proofs.lemmas.Bool.{cases_lt}
 use Rattle.av_affine.specs.declared.map.Map.{Map}
 use Rattle.av_flat.specs.Trees.{Tree, reference, constant, binary, choice, restriction, cases, dependence, reduction, pick}
 use Rattle.av_flat.specs.Broadcasts.{references}
-use Rattle.av_space.specs.Taps.{Place, places_in}
+use Rattle.av_space.specs.Taps.{ReadingPlace, places_in}
 use Rattle.av_space.proofs.Elements.{each_at}
 use Rattle.av_base.proofs.Lists.{each_append, each_weaker, some_is}
 
 -- of a reference the number is in the range, and of others nothing is said
-abbrev IsWithinBy : ℕ → ℕ → Place → Tree → Type 0
+abbrev IsWithinBy : ℕ → ℕ → ReadingPlace → Tree → Type 0
 IsWithinBy low high p (reference place m) = (low ≤ p.site) × (p.site < high)
 IsWithinBy low high p _ = Unit {0}
 
-abbrev IsWithin : ℕ → ℕ → Place → Type 0
+abbrev IsWithin : ℕ → ℕ → ReadingPlace → Type 0
 IsWithin low high p = IsWithinBy low high p p.tree
 
-wider_by : (low high a b : ℕ) → a ≤ low → high ≤ b → (p : Place) (t : Tree) → IsWithinBy low high p t → IsWithinBy a b p t
+wider_by : (low high a b : ℕ) → a ≤ low → high ≤ b → (p : ReadingPlace) (t : Tree) → IsWithinBy low high p t → IsWithinBy a b p t
 wider_by low high a b l h p (reference place m) w = (omega (arith, w.0, l), omega (arith, w.1, h))
 wider_by low high a b l h p _ w = tt
 
 -- a later reference has a greater number
-abbrev IsAboveBy : Place → Place → Tree → Tree → Type 0
+abbrev IsAboveBy : ReadingPlace → ReadingPlace → Tree → Tree → Type 0
 IsAboveBy p q (reference place m) (reference other k) = p.site < q.site
 IsAboveBy p q _ _ = Unit {0}
 
-abbrev IsAbove : Place → Place → Type 0
+abbrev IsAbove : ReadingPlace → ReadingPlace → Type 0
 IsAbove p q = IsAboveBy p q p.tree q.tree
 
-abbrev AreRising : List Place → Type 0
+abbrev AreRising : List ReadingPlace → Type 0
 AreRising [] = Unit {0}
 AreRising (p ∷ ps) = AllByRecursion (IsAbove p) ps × AreRising ps
 
-apart_by : (m : ℕ) (p q : Place) (t u : Tree) (low high : ℕ) → IsWithinBy low m p t → IsWithinBy m high q u → IsAboveBy p q t u
+apart_by : (m : ℕ) (p q : ReadingPlace) (t u : Tree) (low high : ℕ) → IsWithinBy low m p t → IsWithinBy m high q u → IsAboveBy p q t u
 apart_by m p q (reference place f) (reference other g) low high a b = omega (arith, a.1, b.0)
 apart_by m p q _ _ low high a b = tt
 
-joined : (low m high : ℕ) (ps qs : List Place) → AllByRecursion (IsWithin low m) ps → AllByRecursion (IsWithin m high) qs → AreRising ps → AreRising qs → AreRising (ps ++ qs)
+joined : (low m high : ℕ) (ps qs : List ReadingPlace) → AllByRecursion (IsWithin low m) ps → AllByRecursion (IsWithin m high) qs → AreRising ps → AreRising qs → AreRising (ps ++ qs)
 joined low m high [] qs a b f g = g
 joined low m high (p ∷ ps) qs a b f g =
     (each_append (IsAbove p) ps qs f.0 (each_weaker (IsWithin m high) (IsAbove p) (λ q w. apart_by m p q p.tree q.tree low high a.0 w) qs b), joined low m high ps qs a.1 b f.1 g)
 
-widened : (low high a b : ℕ) → a ≤ low → high ≤ b → (ps : List Place) → AllByRecursion (IsWithin low high) ps → AllByRecursion (IsWithin a b) ps
+widened : (low high a b : ℕ) → a ≤ low → high ≤ b → (ps : List ReadingPlace) → AllByRecursion (IsWithin low high) ps → AllByRecursion (IsWithin a b) ps
 widened low high a b l h ps w = each_weaker (IsWithin low high) (IsWithin a b) (λ p x. wider_by low high a b l h p p.tree x) ps w
 
 -- the numbers of places lie between these, and rise
-abbrev AreNumbered : ℕ → ℕ → List Place → Type 0
+abbrev AreNumbered : ℕ → ℕ → List ReadingPlace → Type 0
 AreNumbered low high ps = AllByRecursion (IsWithin low high) ps × AreRising ps
 
-both_numbered : (low m high : ℕ) → low ≤ m → m ≤ high → (ps qs : List Place) → AreNumbered low m ps → AreNumbered m high qs → AreNumbered low high (ps ++ qs)
+both_numbered : (low m high : ℕ) → low ≤ m → m ≤ high → (ps qs : List ReadingPlace) → AreNumbered low m ps → AreNumbered m high qs → AreNumbered low high (ps ++ qs)
 both_numbered low m high l h ps qs a b = (
   each_append (IsWithin low high) ps qs (widened low m low high (omega arith) h ps a.0) (widened m high low high l (omega arith) qs b.0),
   joined low m high ps qs a.0 b.0 a.1 b.1,
@@ -84,14 +84,14 @@ numbered k n (cases ts) = (tt, tt)
 numbered k n (dependence m t) = (tt, tt)
 numbered k n (reduction o m t set) = (tt, tt)
 
-rising_at : (ps : List Place) → AreRising ps → (i j : ℕ) (p q : Place) → i < j → slice_get ps i ≡ Some p → slice_get ps j ≡ Some q → IsAbove p q
+rising_at : (ps : List ReadingPlace) → AreRising ps → (i j : ℕ) (p q : ReadingPlace) → i < j → slice_get ps i ≡ Some p → slice_get ps j ≡ Some q → IsAbove p q
 rising_at [] h i j p q lt a b = absurd cc
 rising_at (x ∷ ps) h i zero p q lt a b = absurd (omega (arith, lt))
-rising_at (x ∷ ps) h zero (suc j) p q lt a b = subst (λ (y : Place). IsAbove y q) (some_is x p a) (each_at (IsAbove x) ps h.0 j q b)
+rising_at (x ∷ ps) h zero (suc j) p q lt a b = subst (λ (y : ReadingPlace). IsAbove y q) (some_is x p a) (each_at (IsAbove x) ps h.0 j q b)
 rising_at (x ∷ ps) h (suc i) (suc j) p q lt a b = rising_at ps h.1 i j p q (omega (arith, lt)) a b
 
 -- two references with one number are one place
-pub one_reference : (k : ℕ) (t : Tree) (i j : ℕ) (p q : Place) (a b : ℕ) (f g : Map) → slice_get (places_in k 0 t) i ≡ Some p → slice_get (places_in k 0 t) j ≡ Some q → p.tree ≡ reference a f → q.tree ≡ reference b g → p.site ≡ q.site → i ≡ j
+pub one_reference : (k : ℕ) (t : Tree) (i j : ℕ) (p q : ReadingPlace) (a b : ℕ) (f g : Map) → slice_get (places_in k 0 t) i ≡ Some p → slice_get (places_in k 0 t) j ≡ Some q → p.tree ≡ reference a f → q.tree ≡ reference b g → p.site ≡ q.site → i ≡ j
 one_reference k t i j p q a b f g is_p is_q e d same = elim (cases_lt i j) [
   | inl l ↦ absurd (let h = above i j p q l is_p is_q e d in omega (arith, h, same))
   | inr ge ↦ elim (cases_lt j i) [
@@ -100,7 +100,7 @@ one_reference k t i j p q a b f g is_p is_q e d same = elim (cases_lt i j) [
   ]
 ]
   where
-    above : (i j : ℕ) (p q : Place) → {a b : ℕ} {f g : Map} → i < j → slice_get (places_in k 0 t) i ≡ Some p → slice_get (places_in k 0 t) j ≡ Some q → p.tree ≡ reference a f → q.tree ≡ reference b g → p.site < q.site
+    above : (i j : ℕ) (p q : ReadingPlace) → {a b : ℕ} {f g : Map} → i < j → slice_get (places_in k 0 t) i ≡ Some p → slice_get (places_in k 0 t) j ≡ Some q → p.tree ≡ reference a f → q.tree ≡ reference b g → p.site < q.site
     above i j p q {a} {b} {f} {g} l is_p is_q e d =
         let h = rising_at (places_in k 0 t) (numbered k 0 t).1 i j p q l is_p is_q in
         subst (λ (u : Tree). IsAboveBy p q (reference a f) u) d (subst (λ (u : Tree). IsAboveBy p q u q.tree) e h)

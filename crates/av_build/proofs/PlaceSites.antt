@@ -5,7 +5,7 @@ use Rattle.av_flat.specs.Trees.{Tree, reference, constant, binary, choice, restr
 use Rattle.av_flat.specs.Broadcasts.{references}
 use Rattle.av_flat.specs.Kept.{IsPlain}
 use Rattle.av_flat.specs.WellFormed.{EachPart, is_reduction}
-use Rattle.av_space.specs.Taps.{Place, places_in}
+use Rattle.av_space.specs.Taps.{ReadingPlace, places_in}
 use Rattle.av_kinds.specs.Programs.{site_count}
 use Rattle.av_history.specs.Places.{EachPlace}
 use Rattle.av_build.proofs.Appended.{get_right}
@@ -62,18 +62,18 @@ place_count k n (dependence m t) h = absurd h
 place_count k n (reduction o m t set) h = absurd h
 
 -- R holds of the places of the list, which have the numbers from s on
-abbrev AllPlaces : (ℕ → ℕ → Tree → Type 0) → ℕ → List Place → Type 0
-AllPlaces R s ps = (i : ℕ) (p : Place) → slice_get ps i ≡ Some p → R (s + i) p.site p.tree
+abbrev AllPlaces : (ℕ → ℕ → Tree → Type 0) → ℕ → List ReadingPlace → Type 0
+AllPlaces R s ps = (i : ℕ) (p : ReadingPlace) → slice_get ps i ≡ Some p → R (s + i) p.site p.tree
 
-of_left : (R : ℕ → ℕ → Tree → Type 0) (s : ℕ) (ps qs : List Place) → AllPlaces R s (ps ++ qs) → AllPlaces R s ps
+of_left : (R : ℕ → ℕ → Tree → Type 0) (s : ℕ) (ps qs : List ReadingPlace) → AllPlaces R s (ps ++ qs) → AllPlaces R s ps
 of_left R s ps qs h = λ i p e. h i p (get_first ps qs i p e)
 
-of_right : (R : ℕ → ℕ → Tree → Type 0) (s t : ℕ) (ps qs : List Place) → t ≡ s + length ps → AllPlaces R s (ps ++ qs) → AllPlaces R t qs
+of_right : (R : ℕ → ℕ → Tree → Type 0) (s t : ℕ) (ps qs : List ReadingPlace) → t ≡ s + length ps → AllPlaces R s (ps ++ qs) → AllPlaces R t qs
 of_right R s t ps qs e h = λ i p f.
     let a : s + (length ps + i) ≡ t + i = omega (arith, e) in
     subst (λ (n : ℕ). R n p.site p.tree) a (h (length ps + i) p (get_right ps qs i p f))
 
-first_place : (R : ℕ → ℕ → Tree → Type 0) (s : ℕ) (p : Place) → AllPlaces R s (p ∷ []) → R s p.site p.tree
+first_place : (R : ℕ → ℕ → Tree → Type 0) (s : ℕ) (p : ReadingPlace) → AllPlaces R s (p ∷ []) → R s p.site p.tree
 first_place R s p h = let a : s + 0 ≡ s = omega arith in subst (λ (n : ℕ). R n p.site p.tree) a (h 0 p refl)
 
 pub each_place : (R : ℕ → ℕ → Tree → Type 0) (k s n : ℕ) (t : Tree) → IsPlainTree t → AllPlaces R s (places_in k n t) → EachPlace R s n t

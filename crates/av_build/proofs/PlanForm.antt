@@ -14,7 +14,7 @@ use Rattle.av_net.specs.Rows.{operands_of}
 use Rattle.av_space.specs.Occupancy.{AreCells}
 use Rattle.av_space.specs.Ports.{output_cells}
 use Rattle.av_kinds.specs.declared.counter.Counter.{Counter}
-use Rattle.av_kinds.specs.declared.program.Source.TheVariants.{Input, Line}
+use Rattle.av_kinds.specs.declared.program.WordSource.TheVariants.{Input, Line}
 use Rattle.av_kinds.specs.Counters.{counter_name, count_in}
 use Rattle.av_kinds.specs.Names.{output_name, value_name}
 use Rattle.av_kinds.specs.Programs.{Lane, Program, IsProgram}

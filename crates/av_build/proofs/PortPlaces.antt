@@ -13,12 +13,12 @@ use Rattle.av_flat.specs.Nodes.{nodes}
 use Rattle.av_flat.specs.Signatures.{signatures}
 use Rattle.av_space.specs.declared.array.Array.{Array as ArrayMade}
 use Rattle.av_space.specs.declared.cells.InPort.{InPort}
-use Rattle.av_space.specs.declared.spots.Site.{Site as PlaceMade}
+use Rattle.av_space.specs.declared.spots.Site.{Site}
 use Rattle.av_space.specs.declared.spots.Spot.{Spot as SpotMade}
 use Rattle.av_space.specs.Ports.{IsPort}
 use Rattle.av_space.specs.Sites.{place_of}
 use Rattle.av_space.specs.Spots.{system_of, helpers_of, placings_of, cells_of, ComputesIn, IsSpot, IsSiteOf}
-use Rattle.av_space.specs.Taps.{Place}
+use Rattle.av_space.specs.Taps.{ReadingPlace}
 use Rattle.av_space.proofs.ByPlace.{from_map}
 use Rattle.av_space.proofs.Elements.{in_range}
 use Rattle.av_space.proofs.Helpers.{equal}
@@ -102,7 +102,7 @@ module _ (b : Blueprint) (is : IsBlueprint b) (port : InPort) (among : Contains 
           let f = is_port.4 in
           ap (λ (q : Piece). slice_get (references q.tree) port.site) (piece_is is_port.0 f.node is_port.1 f.variable f.piece f.computes f.is_variable f.is_piece) ∙ f.is_reference
 
-      port_sites : (sites : List PlaceMade) × (slice_get plan.pieces.sites k ≡ Some sites) × HasReference sites port.site
+      port_sites : (sites : List Site) × (slice_get plan.pieces.sites k ≡ Some sites) × HasReference sites port.site
       port_sites =
           let many = pieces.one_each in
           let within = in_range (spots_on w plan.pieces) k made is_made in
@@ -110,11 +110,11 @@ module _ (b : Blueprint) (is : IsBlueprint b) (port : InPort) (among : Contains 
           let sites = pieces.sites k made own.0 is_made own.1 in
           let place = told at.number 0 (view_piece at.piece.now).tree port.site read reads in
           let e : 0 + port.site ≡ port.site = omega arith in
-          let wanted : Place = record { piece = at.number; site = 0 + port.site; tree = reference read.place read.map } in
-          let mapped : slice_get (map (λ (s : PlaceMade). place_of s.place) own.0) place.0 ≡ Some wanted = ap (λ (l : List Place). slice_get l place.0) sites.places ∙ place.1 in
-          let site = from_map (λ (s : PlaceMade). place_of s.place) own.0 place.0 wanted mapped in
+          let wanted : ReadingPlace = record { piece = at.number; site = 0 + port.site; tree = reference read.place read.map } in
+          let mapped : slice_get (map (λ (s : Site). place_of s.place) own.0) place.0 ≡ Some wanted = ap (λ (l : List ReadingPlace). slice_get l place.0) sites.places ∙ place.1 in
+          let site = from_map (λ (s : Site). place_of s.place) own.0 place.0 wanted mapped in
           let test : is_reference_at port.site site.0.place.site (view site.0.place.tree) ≡ true =
-          ap (λ (q : Place). is_reference_at port.site q.site q.tree) site.2 ∙ ap (λ (i : ℕ). nat_eq i port.site) e ∙ same_eq port.site in
+          ap (λ (q : ReadingPlace). is_reference_at port.site q.site q.tree) site.2 ∙ ap (λ (i : ℕ). nat_eq i port.site) e ∙ same_eq port.site in
           (own.0, own.1, (site.0, (among_at own.0 place.0 site.0 site.1, test)))
 
     -- there is a place of the port
@@ -135,7 +135,7 @@ module _ (b : Blueprint) (is : IsBlueprint b) (port : InPort) (among : Contains 
 
     -- ---- the place of the port
 
-    module _ (site : PlaceMade) (found : IsPortPlace plan.pieces port site) where
+    module _ (site : Site) (found : IsPortPlace plan.pieces port site) where
       as_reference : IsReferenceAt port.site site.place.site (view site.place.tree)
       as_reference = reference_at port.site site.place.site (view site.place.tree) found.is_reference.1
 

@@ -13,7 +13,7 @@ use Rattle.av_flat.specs.Nodes.{is_node, nodes}
 use Rattle.av_space.specs.Taps.{node_place}
 use Rattle.av_space.proofs.Nodes.{passing, own_place}
 use Rattle.av_kinds.specs.declared.program.CellLanes.{CellLanes}
-use Rattle.av_kinds.specs.declared.program.Interval.{Interval}
+use Rattle.av_kinds.specs.declared.program.Window.{Window}
 use Rattle.av_kinds.specs.Programs.{has_number, is_active, site_count, Mode, Lane, Program, FitsTree, IsModeOf, IsLaneOf}
 use Rattle.av_history.specs.Arranged.{IsArranged}
 use Rattle.av_history.specs.Performing.{Array, ComputesOn, Lanes, Spot}
@@ -22,11 +22,11 @@ use Rattle.av_build.specs.inner.Programmed.{IsModeFor, IsValueLane, IsProgramFor
 use Rattle.av_build.proofs.FineLanes.{HasNumbers, fits_tree, IsBusy, work_fine}
 use Rattle.av_build.proofs.Lengths.{short_line}
 
--- a mode that is active has an interval
-pub has_interval : (x : ℕ) (m : Mode) → IsTrue (is_active x m) → 0 < length m.intervals
-has_interval x m e = by_list m.intervals e
+-- a mode that is active has a window
+pub has_window : (x : ℕ) (m : Mode) → IsTrue (is_active x m) → 0 < length m.windows
+has_window x m e = by_list m.windows e
   where
-    by_list : (is : List Interval) → list_any (has_number x) is ≡ true → 0 < length is
+    by_list : (is : List Window) → list_any (has_number x) is ≡ true → 0 < length is
     by_list [] f = absurd cc
     by_list (i ∷ is) f = omega arith
 
@@ -34,14 +34,14 @@ module _ (a : Array) (count : ℕ → ℕ) (few : (c : ℕ) → count c < 2 ^ 12
     (cycles : (p c n : ℕ) (z : Point) → ComputesOn a p c n z → c < 2 ^ 12)
     (fits : (n : ℕ) (v : Variable) (k : ℕ) (piece : Piece) → slice_get (nodes a.system) n ≡ Some v → slice_get v.pieces k ≡ Some piece → HasNumbers v.width piece.tree) where
   -- begins and ends with numbers of computations
-  abbrev Ending : ℕ → Interval → Type 0
+  abbrev Ending : ℕ → Window → Type 0
   Ending p i = ((c : ℕ) × (n : ℕ) × (z : Point) × ComputesOn a p c n z × (i.first ≡ count c)) × ((c : ℕ) × (n : ℕ) × (z : Point) × ComputesOn a p c n z × (i.last ≡ count c))
 
-  small : (p : ℕ) (i : Interval) → Ending p i → (i.first < 2 ^ 12) × (i.last < 2 ^ 12)
+  small : (p : ℕ) (i : Window) → Ending p i → (i.first < 2 ^ 12) × (i.last < 2 ^ 12)
   small p i e = (subst (λ (n : ℕ). n < 2 ^ 12) (sym e.0.4) (few e.0.0), subst (λ (n : ℕ). n < 2 ^ 12) (sym e.1.4) (few e.1.0))
 
-  pub numbers_small : (p : ℕ) (R Q : ℕ → Point → Type 0) (m : Mode) → IsModeFor a count p R Q m → AllByRecursion (λ (i : Interval). (i.first < 2 ^ 12) × (i.last < 2 ^ 12)) m.intervals
-  numbers_small p R Q m h = each_weaker (Ending p) (λ (i : Interval). (i.first < 2 ^ 12) × (i.last < 2 ^ 12)) (small p) m.intervals h.ends
+  pub numbers_small : (p : ℕ) (R Q : ℕ → Point → Type 0) (m : Mode) → IsModeFor a count p R Q m → AllByRecursion (λ (i : Window). (i.first < 2 ^ 12) × (i.last < 2 ^ 12)) m.windows
+  numbers_small p R Q m h = each_weaker (Ending p) (λ (i : Window). (i.first < 2 ^ 12) × (i.last < 2 ^ 12)) (small p) m.windows h.ends
 
   pub short : (size : ℕ) → size < 2 ^ 12 → size < 2 ^ 32
   short size low = omega (arith, low)
@@ -76,11 +76,11 @@ module _ (a : Array) (count : ℕ → ℕ) (few : (c : ℕ) → count c < 2 ^ 12
           tree = subst (λ (w : ℕ). FitsTree w m.work.tree) (sym h.width_is) (subst (λ (t : Tree). FitsTree v.width t) (sym work.tree) (fits_tree v.width piece.tree numbers));
           many = work.many ∙ ap site_count (sym work.tree);
           sites = work_fine a count few lanes program g arranged ports first (lanes.of_value p) (at k piece) own.place busy refl cell is_cell first_is m.work work numbers;
-          intervals = numbers_small p (λ m z. m ≡ n) (λ m z. IsTrue (has piece.domain z)) m told.5;
+          windows = numbers_small p (λ m z. m ≡ n) (λ m z. IsTrue (has piece.domain z)) m told.5;
         }
 
     -- the piece of the computed point, whose mode is active then
-    some_mode : (k : ℕ) × (m : Mode) × (slice_get lane.modes k ≡ Some m) × (0 < length m.intervals)
+    some_mode : (k : ℕ) × (m : Mode) × (slice_get lane.modes k ≡ Some m) × (0 < length m.windows)
     some_mode =
         let own = passing is_node a.system.variables n v is_variable in
         let computation = computes.stands.computation in
@@ -92,7 +92,7 @@ module _ (a : Array) (count : ℕ → ℕ) (few : (c : ℕ) → count c < 2 ^ 12
         let number : found.0 ≡ told.0 = some_is found.0 told.0 (sym mode.3 ∙ told.2) in
         let same : found.1 ≡ told.1 = some_is found.1 told.1 (sym found.2 ∙ ap (λ (k : ℕ). slice_get v.pieces k) number ∙ told.3) in
         let inside : IsTrue (has told.1.domain z) = subst (λ (q : Piece). IsTrue (has q.domain z)) same found.3 in
-        (mode.0, mode.1, mode.2, has_interval (count c) mode.1 ((told.5.numbers c n z computes refl).1 inside))
+        (mode.0, mode.1, mode.2, has_window (count c) mode.1 ((told.5.numbers c n z computes refl).1 inside))
 
     pub value_lane_of : IsLaneOf program first p (lanes.of_value p) lane
     value_lane_of =

@@ -5,12 +5,12 @@ use Rattle.av_base.proofs.Lists.{there_is}
 use Rattle.av_affine.specs.Maps.{image}
 use Rattle.av_tree.specs.Points.{Point}
 use Rattle.av_flat.specs.Trees.{Tree, view, reference, constant, binary, choice, restriction, cases, dependence, reduction, pick}
-use Rattle.av_space.specs.declared.spots.Site.{Site as PlaceMade}
+use Rattle.av_space.specs.declared.spots.Site.{Site}
 use Rattle.av_space.specs.declared.spots.Spot.{Spot as SpotMade}
 use Rattle.av_space.specs.declared.layout.Slot.{Slot}
 use Rattle.av_space.specs.Layouts.{IsSlot, AreSlots}
 use Rattle.av_space.specs.Spots.{system_of, placings_of, cells_of, IsSpot, IsSlotIn, AreSites, IsSiteOf}
-use Rattle.av_space.specs.Taps.{Handing, IsReadBy}
+use Rattle.av_space.specs.Taps.{Pipeline, IsReadBy}
 use Rattle.av_space.proofs.Elements.{at_index}
 use Rattle.av_space.proofs.SpotReadings.{declared_read}
 use Rattle.av_kinds.specs.declared.counter.Counter.{Counter}
@@ -22,7 +22,7 @@ use Rattle.av_build.specs.inner.Orders.{AreWithin}
 use Rattle.av_build.proofs.HelperPlaces.{spot_at}
 use Rattle.av_build.proofs.HelpersOn.{helper_of_place}
 
-module _ (b : Blueprint) (is : IsBlueprint b) (at : SpotMade) (sites : List PlaceMade) (on : IsSpotOn b at sites) where
+module _ (b : Blueprint) (is : IsBlueprint b) (at : SpotMade) (sites : List Site) (on : IsSpotOn b at sites) where
   pub some_slots : 0 < length at.slots
   some_slots = (spot_at b.array is.array at.cell on.plan.pieces (is.plans.pieces at.cell on.plan on.is_plan) on.number at on.is_spot).1
 
@@ -32,13 +32,13 @@ module _ (b : Blueprint) (is : IsBlueprint b) (at : SpotMade) (sites : List Plac
   pub sites_there : AreSites b.array at sites
   sites_there = (is.plans.pieces at.cell on.plan on.is_plan).sites on.number at sites on.is_spot on.are_sites
 
-  pub site_at : (i : ℕ) (place : PlaceMade) → slice_get sites i ≡ Some place → IsSiteOf b.array at place
+  pub site_at : (i : ℕ) (place : Site) → slice_get sites i ≡ Some place → IsSiteOf b.array at place
   site_at i place e = at_index (IsSiteOf b.array at) sites sites_there.each i place e
 
   -- the helper of a place is one of the cell's
-  pub helper_on : (i : ℕ) (place : PlaceMade) → slice_get sites i ≡ Some place → (h : Handing) → place.handing ≡ Some h → HasHelper b at.cell h.number
-  helper_on i place e h handing =
-      let found = helper_of_place on.plan.pieces on.number sites on.are_sites i place e h handing in
+  pub helper_on : (i : ℕ) (place : Site) → slice_get sites i ≡ Some place → (h : Pipeline) → place.pipeline ≡ Some h → HasHelper b at.cell h.number
+  helper_on i place e h pipeline =
+      let found = helper_of_place on.plan.pieces on.number sites on.are_sites i place e h pipeline in
       record { plan = on.plan; is_plan = on.is_plan; index = found.0; helper = record { number = h.number; piece = on.number; site = i }; is_helper = found.1; number = refl }
 
   -- its computations are not as far apart as the counter has numbers
@@ -58,7 +58,7 @@ cell_within b counter counted p slots are = λ j k s t is_s is_t.
 
 -- ---- what a place reads
 
-module _ (b : Blueprint) (is : IsBlueprint b) (at : SpotMade) (spot : IsSpot b.array at) (some : 0 < length at.slots) (mine : PlaceMade) (placed : IsSiteOf b.array at mine) where
+module _ (b : Blueprint) (is : IsBlueprint b) (at : SpotMade) (spot : IsSpot b.array at) (some : 0 < length at.slots) (mine : Site) (placed : IsSiteOf b.array at mine) where
   by_tree : (t : Tree) → view mine.place.tree ≡ t → HasVariable (system_of b.array) t
   by_tree (reference place m) e =
       let slot = there_is at.slots 0 some in

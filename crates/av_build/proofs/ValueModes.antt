@@ -8,7 +8,7 @@ use Rattle.av_flat.specs.Nodes.{nodes}
 use Rattle.av_flat.specs.Points.{has}
 use Rattle.av_depend.specs.SetPoints.{IsPointOf}
 use Rattle.av_space.specs.declared.layout.Slot.{Slot}
-use Rattle.av_space.specs.declared.spots.Site.{Site as PlaceMade}
+use Rattle.av_space.specs.declared.spots.Site.{Site}
 use Rattle.av_space.specs.declared.spots.Spot.{Spot as SpotMade}
 use Rattle.av_space.specs.Layouts.{IsSlot, AreSlots}
 use Rattle.av_space.specs.Spots.{system_of, placings_of, cells_of, ComputesIn, IsSpot}
@@ -20,9 +20,9 @@ use Rattle.av_kinds.specs.Programs.{Work, Mode}
 use Rattle.av_kinds.specs.Written.{ModeMade, mode_of}
 use Rattle.av_build.specs.declared.blueprint.Blueprint.{Blueprint}
 use Rattle.av_build.specs.declared.blueprint.CellPlan.{CellPlan}
-use Rattle.av_build.specs.declared.intervals.Mark.{Mark}
+use Rattle.av_build.specs.declared.windows.CounterMark.{CounterMark}
 use Rattle.av_build.specs.inner.Blueprints.{seen, spots_on, IsBlueprint, IsSpotOn}
-use Rattle.av_build.specs.inner.Intervals.{intervals_by}
+use Rattle.av_build.specs.inner.Windows.{windows_by}
 use Rattle.av_build.specs.inner.Lanes.{IsValueMode}
 use Rattle.av_build.specs.inner.Orders.{IsInOrder, AreMarks}
 use Rattle.av_build.specs.inner.Programmed.{IsModeFor}
@@ -35,7 +35,7 @@ module _ (b : Blueprint) (is : IsBlueprint b) (p : ℕ) (plan : CellPlan) (is_pl
   here : (at.cell ≡ p) × (0 < length at.slots) × IsSpot b.array at
   here = spot_at b.array is.array p plan.pieces (is.plans.pieces p plan is_plan) k at is_at
 
-  pub is_on : (sites : List PlaceMade) → slice_get plan.pieces.sites k ≡ Some sites → IsSpotOn b at sites
+  pub is_on : (sites : List Site) → slice_get plan.pieces.sites k ≡ Some sites → IsSpotOn b at sites
   is_on sites are = record { plan = plan; is_plan = ap (λ (q : ℕ). slice_get b.cells q) here.0 ∙ is_plan; number = k; is_spot = is_at; are_sites = are }
 
   cell_is : slice_get (cells_of b.array) p ≡ Some here.2.cell
@@ -51,8 +51,8 @@ module _ (b : Blueprint) (is : IsBlueprint b) (p : ℕ) (plan : CellPlan) (is_pl
     cell_points = slot_points b.array.timed.now b.array.layout p (view_variable at.var.now) slots is.array.legal
         (record { cell = here.2.cell; is_cell = cell_is; is_variable = ap (λ (n : ℕ). slice_get (nodes (system_of b.array)) n) here.2.node ∙ here.2.is_variable; are_slots = are }) at.number (view_piece at.piece.now) here.2.is_piece
 
-    pub piece_mode : (count : ℕ → ℕ) (order : List ℕ) → IsInOrder count slots order → (marks : List Mark) → AreMarks count slots order (λ (t : Slot). IsTrue (has at.piece.now.domain t.point)) (length order) marks → (work : Work)
-        → IsModeFor (seen b.array) count p (λ m z. m ≡ at.node) (λ m z. IsTrue (has at.piece.now.domain z)) (record { intervals = intervals_by marks; work = work })
+    pub piece_mode : (count : ℕ → ℕ) (order : List ℕ) → IsInOrder count slots order → (marks : List CounterMark) → AreMarks count slots order (λ (t : Slot). IsTrue (has at.piece.now.domain t.point)) (length order) marks → (work : Work)
+        → IsModeFor (seen b.array) count p (λ m z. m ≡ at.node) (λ m z. IsTrue (has at.piece.now.domain z)) (record { windows = windows_by marks; work = work })
     piece_mode count order in_order marks told work =
         mode_for (seen b.array) count p slots order in_order (λ m z. m ≡ at.node) (λ m z. IsTrue (has at.piece.now.domain z)) (λ (t : Slot). IsTrue (has at.piece.now.domain t.point)) each all (λ c n z computes read. ((λ x. x), (λ x. x))) marks told work
       where

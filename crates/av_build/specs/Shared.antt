@@ -30,14 +30,14 @@ stretch_count true (true ∷ marks) = stretch_count true marks
 stretch_count false (true ∷ marks) = 1 + stretch_count true marks
 
 -- a computation of a piece on a cell, and whether it is an entry point of a helper
-pub record Mark : Type 0 where
+pub record CounterMark : Type 0 where
   pub cycle : ℕ
   pub is_entry : Bool
 
 -- of the piece of the helper on the cell p: all computations, in the order of cycles
-pub record AreMarks (s : FlatSystem) (placings : List Placing) (cells : List Cell) (p : ℕ) (h : Helper) (piece : Piece) (marks : List Mark) : Type 0 where
+pub record AreMarks (s : FlatSystem) (placings : List Placing) (cells : List Cell) (p : ℕ) (h : Helper) (piece : Piece) (marks : List CounterMark) : Type 0 where
   pub each : All (λ m. (z : Point) × Computes s placings cells p m.cycle (number_at s h.var) z × IsTrue (has piece.domain z) × (IsTrue m.is_entry ↔ IsEntry piece.domain h.direction z)) marks
-  pub all : (c : ℕ) (z : Point) → Computes s placings cells p c (number_at s h.var) z → IsTrue (has piece.domain z) → (m : Mark) × Contains marks m × (m.cycle ≡ c)
+  pub all : (c : ℕ) (z : Point) → Computes s placings cells p c (number_at s h.var) z → IsTrue (has piece.domain z) → (m : CounterMark) × Contains marks m × (m.cycle ≡ c)
   pub order : AllPairs (λ a b. a.cycle < b.cycle) marks
 
 -- the number of stretches of entry points of the helper on the cell p
@@ -46,9 +46,9 @@ pub record HasStretches (s : FlatSystem) (placings : List Placing) (cells : List
   pub is_variable : slice_get s.variables h.var ≡ Some variable
   pub piece : Piece
   pub is_piece : slice_get variable.pieces h.piece ≡ Some piece
-  pub marks : List Mark
+  pub marks : List CounterMark
   pub are_marks : AreMarks s placings cells p h piece marks
-  pub count : n ≡ stretch_count false (map (λ (m : Mark). m.is_entry) marks)
+  pub count : n ≡ stretch_count false (map (λ (m : CounterMark). m.is_entry) marks)
 
 -- two cells have one signature: they are of one node, the same pieces have a computation on them, each tap site has as many links on the one as on
 -- the other, and each moved reference as many stretches of entry points

@@ -1,5 +1,5 @@
-pub mod Intervals
-pub mod HandModes
+pub mod Windows
+pub mod PipelineModes
 pub mod Moments
 pub mod Sources
 pub mod Orders

@@ -103,7 +103,7 @@ fn pieces_on<'a>(alloc: Global, array: &Array<'a>, cell: usize) -> Result<Pieces
     })
 }
 
-// Puts the helpers of a piece's places behind others.
+// Appends the helpers of a piece's places.
 fn add_helpers(
     pieces: &Pieces<'_>,
     piece: usize,
@@ -114,11 +114,11 @@ fn add_helpers(
 {
     let sites = pieces.sites.as_slice()[piece].as_slice();
     for site in 0..sites.len() {
-        let Some(handing) = &sites[site].handing else {
+        let Some(pipeline) = &sites[site].pipeline else {
             continue;
         };
         helpers.push(HelperPlan {
-            number: handing.number,
+            number: pipeline.number,
             piece,
             site,
         })?;
@@ -137,7 +137,7 @@ fn helpers(alloc: Global, pieces: &Pieces<'_>) -> Result<List<HelperPlan>, Memor
     Ok(helpers)
 }
 
-// Puts the lanes of a cell behind those of earlier cells.
+// Appends the lanes of a cell to those of earlier cells.
 fn add_cell<'a>(
     alloc: Global,
     array: &Array<'a>,

@@ -6,21 +6,21 @@ ghost use Rattle.av_space.specs.Spots.{helpers_of};
 ghost use Rattle.av_kinds.specs.Written.{work_of, mode_of, lane_of};
 ghost use Rattle.av_history.specs.Widths.{read_width};
 ghost use Rattle.av_build.specs.inner.Blueprints.{IsBlueprint, IsCounted};
-ghost use Rattle.av_build.specs.inner.HandModes.{IsEntryMode, own_mode_by, AreHandModes};
-ghost use Rattle.av_build.specs.inner.Intervals.{intervals_by};
+ghost use Rattle.av_build.specs.inner.PipelineModes.{IsEntryMode, own_mode_by, ArePipelineModes};
+ghost use Rattle.av_build.specs.inner.Windows.{windows_by};
 ghost use Rattle.av_build.specs.inner.Lanes.{HasVariable, HasPlan, IsHelperOn, AreHelperModes, IsBuiltBy};
 ghost use Rattle.av_build.specs.inner.Moments.{site_by};
 ghost use Rattle.av_build.specs.inner.Programmed.{inlet_by, one_site};
 
 use crate::blueprint::{Blueprint, HelperPlan};
-use crate::intervals::{Mark, intervals};
-use crate::moments::{HandMoments, Moment, site};
+use crate::moments::{Moment, PipelineMoments, site};
 use crate::order::in_order;
 use crate::ports::{inlet_of, width_read};
 use crate::spots::planned_spot;
+use crate::windows::{CounterMark, windows};
 use av_base::{List, Memory, Width};
 use av_flat::{Flat, Tree};
-use av_kinds::{Counter, Inlet, Lane, Mode, Site as ProgramSite, Work};
+use av_kinds::{Counter, Inlet, Lane, Mode, ProgramSite, Work};
 use av_space::Spot;
 use std::alloc::Global;
 
@@ -33,18 +33,18 @@ fn one_site(alloc: Global, own: ProgramSite) -> Result<List<ProgramSite>, Memory
     Ok(sites)
 }
 
-// In the intervals of the marks that hold, the reference over these sources.
-fn hand_mode<'a>(
+// In the windows of the marks that hold, the reference over these sources.
+fn pipeline_mode<'a>(
     alloc: Global,
-    marks: &[Mark],
+    marks: &[CounterMark],
     tree: &'a Tree,
     source: ProgramSite,
 ) -> Result<Mode<'a>, Memory>
-    ensures intervals { IfOk result (λ mode. mode.intervals ≡ intervals_by marks.now) }
+    ensures windows { IfOk result (λ mode. mode.windows ≡ windows_by marks.now) }
     ensures work { IfOk result (λ mode. work_of mode.work ≡ one_site source (view tree.now)) }
 {
     Ok(Mode {
-        intervals: intervals(alloc, marks)?,
+        windows: windows(alloc, marks)?,
         work: Work {
             sites: one_site(alloc, source)?,
             tree,
@@ -78,13 +78,13 @@ fn entry_mode<'a>(
     flat: &Flat,
     own: Width,
     tree: &'a Tree,
-    found: &HandMoments,
+    found: &PipelineMoments,
 ) -> Result<Mode<'a>, Memory>
     requires { HasVariable (view_system flat.now) (view tree.now) }
     ensures { IfOk result (λ mode. IsEntryMode (view_system flat.now) own.bits (view tree.now) found.now (mode_of mode)) }
 {
     let entries = entry_site(alloc, flat, own, tree, found.entries.as_slice())?;
-    hand_mode(alloc, found.entry_marks.as_slice(), tree, entries)
+    pipeline_mode(alloc, found.entry_marks.as_slice(), tree, entries)
 }
 
 // The mode of the other points, where it reads its own word at the point before.
@@ -92,12 +92,12 @@ fn own_mode<'a>(
     alloc: Global,
     own: Width,
     tree: &'a Tree,
-    found: &HandMoments,
+    found: &PipelineMoments,
 ) -> Result<Mode<'a>, Memory>
     ensures { IfOk result (λ mode. mode_of mode ≡ own_mode_by own (view tree.now) found.now) }
 {
     let word = site(alloc, Inlet::Taps, own, found.own.as_slice())?;
-    hand_mode(alloc, found.own_marks.as_slice(), tree, word)
+    pipeline_mode(alloc, found.own_marks.as_slice(), tree, word)
 }
 
 // The list of two modes.
@@ -116,10 +116,10 @@ fn helper_modes<'a>(
     flat: &Flat,
     own: Width,
     tree: &'a Tree,
-    found: &HandMoments,
+    found: &PipelineMoments,
 ) -> Result<List<Mode<'a>>, Memory>
     requires { HasVariable (view_system flat.now) (view tree.now) }
-    ensures { IfOk result (λ modes. AreHandModes (view_system flat.now) own (view tree.now) found.now (map mode_of modes)) }
+    ensures { IfOk result (λ modes. ArePipelineModes (view_system flat.now) own (view tree.now) found.now (map mode_of modes)) }
 {
     let entries = entry_mode(alloc, flat, own, tree, found)?;
     let others = own_mode(alloc, own, tree, found)?;
@@ -128,7 +128,7 @@ fn helper_modes<'a>(
 
 impl<'a> Blueprint<'a> {
     // What a helper's lane works on: at entry points the reference, and else the helper's word at the point before.
-    fn hand_modes(
+    fn pipeline_modes(
         &self,
         alloc: Global,
         flat: &Flat,
@@ -144,11 +144,11 @@ impl<'a> Blueprint<'a> {
     {
         let pieces = &self.cells.as_slice()[spot.cell].pieces;
         let place = &pieces.sites.as_slice()[helper.piece].as_slice()[helper.site];
-        let Some(handing) = &place.handing else {
+        let Some(pipeline) = &place.pipeline else {
             unreachable!();
         };
         let order = in_order(alloc, spot.slots.as_slice(), counter)?;
-        let found = self.hand_moments(alloc, counter, order.as_slice(), spot, place, handing)?;
+        let found = self.pipeline_moments(alloc, counter, order.as_slice(), spot, place, pipeline)?;
         let read = &place.place;
         helper_modes(alloc, flat, spot.var.width, read.tree, &found)
     }
@@ -175,7 +175,7 @@ impl<'a> Blueprint<'a> {
             home: cell as u32,
             rank: helper.number + 1,
             width: spot.var.width,
-            modes: self.hand_modes(alloc, flat, counter, &spot, helper)?,
+            modes: self.pipeline_modes(alloc, flat, counter, &spot, helper)?,
             length: self.array.line_length(cell, Some(helper.number)),
         })
     }

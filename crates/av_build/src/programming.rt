@@ -16,15 +16,15 @@ ghost use Rattle.av_build.specs.inner.Lanes.{IsPipeSite, IsValueSite, IsValueWor
 ghost use Rattle.av_build.specs.inner.Orders.{IsInOrder};
 
 use crate::blueprint::{Blueprint, LanePlan, plan_lanes};
-use crate::intervals::{intervals, marks};
 use crate::moments::site;
 use crate::order::in_order;
 use crate::ports::{inlet_of, width_read};
 use crate::sorting::kinds_of;
 use crate::spots::planned_spot;
+use crate::windows::{marks, windows};
 use av_base::{List, Memory};
 use av_flat::{Flat, Timed};
-use av_kinds::{CellLanes, Counter, Inlet, Lane, Mode, Program, Site as ProgramSite, Source, Work};
+use av_kinds::{CellLanes, Counter, Inlet, Lane, Mode, Program, ProgramSite, WordSource, Work};
 use av_space::{Array, Cells, Site, Spot};
 use std::alloc::Global;
 
@@ -40,8 +40,8 @@ impl<'a> Blueprint<'a> {
         ProgramSite {
             inlet: Inlet::Pipe(lane - first),
             width: spot.var.width,
-            links: List::new(alloc),
-            otherwise: Source::Line { lane, delay: 0 },
+            selections: List::new(alloc),
+            otherwise: WordSource::Line { lane, delay: 0 },
         }
     }
 
@@ -62,8 +62,8 @@ impl<'a> Blueprint<'a> {
         requires order { IsInOrder (count_in counter) spot.now.slots order.now }
         ensures { IfOk result (IsValueSite self.now counter spot.now place.now) }
     {
-        if let Some(handing) = &place.handing {
-            return Ok(self.pipe_site(alloc, spot, handing.number));
+        if let Some(pipeline) = &place.pipeline {
+            return Ok(self.pipe_site(alloc, spot, pipeline.number));
         }
         let moments = self.moments(alloc, counter, order, spot, place)?;
         let read = &place.place;
@@ -98,7 +98,7 @@ impl<'a> Blueprint<'a> {
         })
     }
 
-    // The piece with this number among those on a cell, in the intervals of its computations.
+    // The piece with this number among those on a cell, in the windows of its computations.
     fn value_mode(
         &self,
         alloc: Global,
@@ -121,7 +121,7 @@ impl<'a> Blueprint<'a> {
         let order = in_order(alloc, all, counter)?;
         let marks = marks(alloc, counter, order.as_slice(), all, &spot.piece.domain)?;
         Ok(Mode {
-            intervals: intervals(alloc, marks.as_slice())?,
+            windows: windows(alloc, marks.as_slice())?,
             work: self.work(alloc, flat, counter, &spot, places)?,
         })
     }

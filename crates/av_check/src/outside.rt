@@ -13,7 +13,7 @@ use av_base::{List, Memory, Point};
 use av_poly::{Bounds, Poly, normalised_copy};
 use std::alloc::Global;
 
-// Puts the parts that have a point behind others.
+// Appends the parts that have a point.
 fn append_parts(
     alloc: Global,
     dim: u8,

@@ -31,20 +31,20 @@ impl Merged {
         requires { IsSound of.now }
         ensures { IfOk result (λ merged. IsMerging of.now merged) }
     {
-        let resolved = Resolved::new(alloc, of)?;
+        let resolved = ResolvedModule::new(alloc, of)?;
         resolved.merged(alloc, of)
     }
 }
 
 // The drives and the steps of a sound module, each at its own place.
 #[derive(Drop)]
-struct Resolved {
+struct ResolvedModule {
     assignments: Vec<Assignment>,
     flip_flops: Vec<FlipFlop>,
 }
 
-impl Resolved {
-    fn new(alloc: Global, of: &Module) -> Result<Resolved, Memory>
+impl ResolvedModule {
+    fn new(alloc: Global, of: &Module) -> Result<ResolvedModule, Memory>
         requires { IsSound of.now }
         ensures assigned { IfOk result (λ resolved. AreAssigned of.now (length of.now.drives) resolved.assignments.items) }
         ensures stepped { IfOk result (λ resolved. AreStepped of.now (length of.now.steps) resolved.flip_flops.items) }
@@ -52,7 +52,7 @@ impl Resolved {
         let resolver = Resolver::new(alloc, of)?;
         let assignments = resolver.assignments(alloc)?;
         let flip_flops = resolver.flip_flops(alloc)?;
-        Ok(Resolved {
+        Ok(ResolvedModule {
             assignments,
             flip_flops,
         })

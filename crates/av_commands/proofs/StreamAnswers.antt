@@ -18,7 +18,7 @@ use Rattle.av_data.specs.Inputs.{InputWords, words_of}
 use Rattle.av_data.specs.Sets.{AreSets, last, more}
 use Rattle.av_data.proofs.Outcome.{readable}
 use Rattle.av_data.proofs.OneData.{not_both}
-use Rattle.av_compile.specs.declared.mapping.Array.{Array}
+use Rattle.av_compile.specs.declared.mapping.MappedSystem.{MappedSystem}
 use Rattle.av_compile.specs.declared.refusal.Refusal.{Refusal}
 use Rattle.av_compile.specs.declared.refusal.Refusal.TheVariants as refusal
 use Rattle.av_compile.specs.Mapped.{IsMapped, IsUnmapped}
@@ -97,19 +97,19 @@ pub as_many_inputs : (s : FlatSystem) (sets : List DataSet) (inputs : List Input
 as_many_inputs s sets inputs spelled = sym spelled.one_each ∙ length-map inputs words_of
 
 -- so many cycles are those of the inputs
-pub cycles_of_inputs : (a : Array) (period other cycles : ℕ) (sets : List DataSet) (inputs : List InputWords) → HasPeriod a.timed a.cells period → HasPeriod a.timed a.cells other
+pub cycles_of_inputs : (a : MappedSystem) (period other cycles : ℕ) (sets : List DataSet) (inputs : List InputWords) → HasPeriod a.timed a.cells period → HasPeriod a.timed a.cells other
     → cycles ≡ stream_cycles a.cells.cycles period (length sets) → length sets ≡ length inputs → cycles ≡ stream_cycles a.cells.cycles other (length inputs)
 cycles_of_inputs a period other cycles sets inputs has too many same =
     many ∙ ap₂ (λ (p n : ℕ). stream_cycles a.cells.cycles p n) (same_period a.timed a.timed a.cells a.cells period other refl refl refl has too) same
 
 -- the run on all sets is too long
-pub sets_long : (a : Array) (first : ℕ) (bytes : List ℕ) (period cycles : ℕ) (sets : List DataSet) (Given : List ℕ → Type 0) {sink sink' : SinkState} {status : Status}
+pub sets_long : (a : MappedSystem) (first : ℕ) (bytes : List ℕ) (period cycles : ℕ) (sets : List DataSet) (Given : List ℕ → Type 0) {sink sink' : SinkState} {status : Status}
     → HasPeriod a.timed a.cells period → AreSets bytes first sets → cycles ≡ stream_cycles a.cells.cycles period (length sets) → 4096 < cycles
     → IsPut sink sink' (refusal_line (cycles_reason cycles)) Refused status → IsAnswered (RefusesSets a first bytes) Given sink sink' status
 sets_long a first bytes period cycles sets Given has are many long put = refused (streaming.too_long has are (subst (λ (n : ℕ). 4096 < n) many long) (ap cycles_reason many)) put
 
 -- some set has a fault
-pub sets_bad : (a : Array) (first : ℕ) (bytes : List ℕ) (period cycles : ℕ) (sets : List DataSet) (f : DataFault) (Given : List ℕ → Type 0) {sink sink' : SinkState} {status : Status}
+pub sets_bad : (a : MappedSystem) (first : ℕ) (bytes : List ℕ) (period cycles : ℕ) (sets : List DataSet) (f : DataFault) (Given : List ℕ → Type 0) {sink sink' : SinkState} {status : Status}
     → HasPeriod a.timed a.cells period → AreSets bytes first sets → cycles ≡ stream_cycles a.cells.cycles period (length sets) → cycles ≤ 4096
     → (f ≢ data_fault.Memory → IsFirstBadSet (view_system a.timed.flat) sets f) → (f ≡ data_fault.Memory → (status ≡ Memory) × (sink'.held ≡ sink.held))
     → ((f ≡ data_fault.Memory → ⊥) → IsPut sink sink' (refusal_line (data_reason f)) Refused status) → IsAnswered (RefusesSets a first bytes) Given sink sink' status
@@ -119,7 +119,7 @@ sets_bad a first bytes period cycles sets f Given has are many short bad none pu
 ]
 
 -- the run on all sets was put
-pub sets_given : (a : Array) (first : ℕ) (bytes : List ℕ) (period cycles : ℕ) (sets : List DataSet) (inputs : List Assignment) {sink sink' : SinkState} {status : Status}
+pub sets_given : (a : MappedSystem) (first : ℕ) (bytes : List ℕ) (period cycles : ℕ) (sets : List DataSet) (inputs : List Assignment) {sink sink' : SinkState} {status : Status}
     → HasPeriod a.timed a.cells period → AreSets bytes first sets → cycles ≡ stream_cycles a.cells.cycles period (length sets) → cycles ≤ 4096
     → AreSpelled (view_system a.timed.flat) sets inputs → PutsOneOf (IsStreamOn a cycles inputs) sink sink' status
     → IsAnswered (RefusesSets a first bytes) (GivesSets a first bytes) sink sink' status
@@ -143,7 +143,7 @@ sets_given a first bytes period cycles sets inputs has are many short spelled pu
 -- ---- answers
 
 -- the answer to the data sets, as one to the whole input
-pub text_answered : (before : List ℕ) (sizes : List Size) (bits box : ℕ) (a : Array) → length before < 4294967295 → 1 ≤ bits → IsMapped before sizes bits box a.timed a.cells → HasOneSolutionEach before sizes bits
+pub text_answered : (before : List ℕ) (sizes : List Size) (bits box : ℕ) (a : MappedSystem) → length before < 4294967295 → 1 ≤ bits → IsMapped before sizes bits box a.timed a.cells → HasOneSolutionEach before sizes bits
     → (words : List (List ℕ)) (rest whole : List ℕ) (first : ℕ) {sink sink' : SinkState} {status : Status} → IsDivided whole before rest first → GiveSizes words sizes
     → IsAnswered (RefusesSets a first rest) (GivesSets a first rest) sink sink' status
     → IsAnswered (RefusesStreamWith words bits box whole) (GivesStreamWith words bits box whole) sink sink' status

@@ -29,7 +29,7 @@ const PRODUCT: &str =
 
 /// The entries of the two matrices, as words of a width.
 #[derive(Clone, Copy, Debug)]
-pub(crate) struct Entries {
+pub(crate) struct MatrixEntries {
     width: Width,
 }
 
@@ -50,7 +50,7 @@ fn entry(name: &Name, point: &Point) -> u64
     }
 }
 
-impl Data for Entries {
+impl Data for MatrixEntries {
     ghost words = { λ e. entries e.width.bits };
 
     fn word(&self, variable: &Name, point: &Point) -> Option<Word> {
@@ -101,7 +101,7 @@ fn put_product<K: Sink>(alloc: Global, compiled: &Compiled, width: Width, sink: 
     requires { IsEntered compiled.now.design width.bits }
     ensures { PutsOneOf (IsSummed compiled.now.cells compiled.now.design width.bits) (K.state sink.old) (K.state sink.new) result }
 {
-    match shown(alloc, &compiled.design, &Entries { width }) {
+    match shown(alloc, &compiled.design, &MatrixEntries { width }) {
         Err(Memory) => Status::Memory,
         Ok(words) => {
             let total = total_of(words.as_slice(), width);

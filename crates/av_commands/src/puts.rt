@@ -24,7 +24,7 @@ use crate::refusals::{write_data_refusal, write_verilog_refusal, write_wave_refu
 use crate::status::Status;
 use av_base::{Sink, write_all};
 use av_best::BestFault;
-use av_compile::{Array, Refusal};
+use av_compile::{MappedSystem, Refusal};
 use av_data::{DataFault, write_schedule, write_table};
 use av_flat::Timed;
 use av_net::Plan;
@@ -65,7 +65,7 @@ pub(crate) fn put_schedule<K: Sink>(sink: &mut K, timed: Timed) -> Status
 }
 
 /// Adds the lines of the array.
-pub(crate) fn put_table<K: Sink>(sink: &mut K, array: Array) -> Status
+pub(crate) fn put_table<K: Sink>(sink: &mut K, array: MappedSystem) -> Status
     requires { IsArrayOf array.timed array.cells }
     ensures { IsPut (K.state sink.old) (K.state sink.new) (table_text array.timed array.cells) Status.Done result }
 {

@@ -35,7 +35,7 @@ use crate::sizes::sizes;
 use crate::status::Status;
 use av_base::limits::MOST_CYCLES;
 use av_base::{List, Memory, Name, Sink, Width, WriteFault, write_all};
-use av_compile::{Array, mapped};
+use av_compile::{MappedSystem, mapped};
 use av_data::{DataFault, DataSet, Inputs, Stimulus, data_sets, divide, read_data};
 use av_flat::{Flat, Reach};
 use av_net::{Design, flatten};
@@ -75,7 +75,7 @@ pub fn stream<K: Sink>(
 // Divides the data, and tells the run on all sets where it is not too long.
 fn stream_on<K: Sink>(
     alloc: Global,
-    array: &Array,
+    array: &MappedSystem,
     bytes: &[u8],
     first_line: u32,
     sink: &mut K,
@@ -154,7 +154,7 @@ pub(crate) fn read_sets(
 // Builds the plan of the array, and adds its text, a line `%%`, and a line for each cycle of its run on all sets.
 fn put_stream<K: Sink>(
     alloc: Global,
-    array: &Array,
+    array: &MappedSystem,
     inputs: &[Inputs],
     cycles: u32,
     sink: &mut K,

@@ -16,7 +16,7 @@ ghost use Rattle.av_compile.specs.declared.refusal.Refusal.{Refusal as Refused};
 ghost use Rattle.av_compile.specs.declared.refusal.Refusal.TheVariants as refusal;
 
 use crate::Refusal;
-use crate::mapping::{Array, mapped};
+use crate::mapping::{MappedSystem, mapped};
 use av_base::{Memory, Width};
 use av_build::build;
 use av_flat::{Flat, Reach, Timed, copy_flat};
@@ -92,7 +92,7 @@ pub fn compile(
     // A system with a first schedule, whose array is within the limits, is not refused.
     ensures complete { (t : System) → IsPipelined bytes.now sizes.now width.bits reach.size t → HasArray t → IfErr result (λ f. f ≡ refusal.Memory) }
 {
-    let Array { timed, cells } = mapped(alloc, bytes, sizes, width, reach)?;
+    let MappedSystem { timed, cells } = mapped(alloc, bytes, sizes, width, reach)?;
     let flat = copy_flat(alloc, &timed.flat)?;
     let Designed { plan, design } = plan_and_design(alloc, &timed, &cells)?;
     Ok(Compiled {

@@ -12,7 +12,7 @@ mod schedule;
 pub use compiler::{Compiled, compile};
 pub use front::checked;
 pub use laws::texts_have_one_fault;
-pub use mapping::{Array, mapped};
+pub use mapping::{MappedSystem, mapped};
 pub use planning::planned;
 pub use refusal::Refusal;
 pub use schedule::scheduled;

@@ -17,7 +17,7 @@ use std::alloc::Global;
 
 /// A scheduled system with its pipelines, and its array.
 #[derive(Debug, Drop)]
-pub struct Array {
+pub struct MappedSystem {
     pub timed: Timed,
     pub cells: Cells,
 }
@@ -33,7 +33,7 @@ pub fn mapped(
     sizes: &[Size],
     width: Width,
     reach: Reach,
-) -> Result<Array, Refusal>
+) -> Result<MappedSystem, Refusal>
     requires short { length bytes.now < 4294967295 }
     requires small { AreSmall sizes.now }
 
@@ -55,5 +55,5 @@ pub fn mapped(
     let found = scheduled(alloc, bytes, sizes, width, reach)?;
     let timed = Pipe.run(alloc, &found)?;
     let cells = map(alloc, &timed)?;
-    Ok(Array { timed, cells })
+    Ok(MappedSystem { timed, cells })
 }

@@ -8,7 +8,7 @@ ghost use Rattle.av_compile.specs.declared.refusal.Refusal.{Refusal as Refused};
 ghost use Rattle.av_compile.specs.declared.refusal.Refusal.TheVariants as refusal;
 
 use crate::Refusal;
-use crate::mapping::{Array, mapped};
+use crate::mapping::{MappedSystem, mapped};
 use av_base::Width;
 use av_build::{Modules, modules};
 use av_flat::Reach;
@@ -55,7 +55,7 @@ pub fn planned(
     // A system with a first schedule, whose array is within the limits, is not refused.
     ensures complete { (t : System) → IsPipelined bytes.now sizes.now width.bits reach.size t → HasArray t → IfErr result (λ f. f ≡ refusal.Memory) }
 {
-    let Array { timed, cells } = mapped(alloc, bytes, sizes, width, reach)?;
+    let MappedSystem { timed, cells } = mapped(alloc, bytes, sizes, width, reach)?;
     let modules = modules(alloc, &timed, &cells)?;
     Ok(with_listing(cells.listing, modules))
 }

@@ -1,5 +1,5 @@
 pub mod Parts
-pub mod Sayings
+pub mod Bindings
 pub mod ReadData
 pub mod Walks
 pub mod Settings

@@ -4,7 +4,7 @@ ghost use Rattle.std.specs.Prelude.{ℤ, List as Items, ◌≡◌, ◌≤◌, �
 ghost use Rattle.av_flat.specs.Points.{has};
 ghost use Rattle.av_affine.specs.Numbers.{AtMost};
 ghost use Rattle.av_poly.specs.Points.{Has};
-ghost use Rattle.av_data.specs.inner.Sayings.{Keeps, signed_value};
+ghost use Rattle.av_data.specs.inner.Bindings.{Keeps, signed_value};
 
 use crate::whole::Whole;
 use arrayvec::ArrayVec;

@@ -1,6 +1,7 @@
 //! Data for a module, the lines that a run is told with, and those of a schedule and of an array.
 #![tactic(auto)]
 
+mod binding;
 mod cycle;
 mod data;
 mod data_lines;
@@ -16,7 +17,6 @@ mod missing;
 mod pieces;
 mod reader;
 mod result;
-mod saying;
 mod schedule;
 mod sets;
 mod spelling;

@@ -13,7 +13,7 @@ use av_base::{List, Memory, Point};
 use av_poly::{Bounds, Poly, extended, first_entries};
 use std::alloc::Global;
 
-// Puts the point behind the others if the set has it.
+// Appends the point if the set has it.
 fn add_point(set: &Poly, entries: &[i64], points: &mut List<Point>) -> Result<(), Memory>
     requires size { length entries.now ≡ set.now.dim }
     requires few { length entries.now ≤ 4 }
@@ -27,7 +27,7 @@ fn add_point(set: &Poly, entries: &[i64], points: &mut List<Point>) -> Result<()
     Ok(())
 }
 
-// Puts those points of the set behind the others, in order, that begin with the fixed entries and have each other entry
+// Appends those points of the set, in order, that begin with the fixed entries and have each other entry
 // between its bounds.
 fn add_points(
     set: &Poly,

@@ -11,9 +11,9 @@ use Rattle.av_flat.specs.Values.{picked}
 use Rattle.av_flat.specs.declared.timed.Helper.{Helper}
 use Rattle.av_flat.specs.Broadcasts.{Reference, references}
 use Rattle.av_flat.specs.Helped.{before, IsEntry}
-use Rattle.av_space.specs.Taps.{Handing, helper_at}
-use Rattle.av_kinds.specs.declared.program.Source.{Source}
-use Rattle.av_kinds.specs.declared.program.Source.TheVariants.{Word, Input, Line}
+use Rattle.av_space.specs.Taps.{Pipeline, helper_at}
+use Rattle.av_kinds.specs.declared.program.WordSource.{WordSource}
+use Rattle.av_kinds.specs.declared.program.WordSource.TheVariants.{Word, Input, Line}
 use Rattle.av_kinds.specs.Histories.{Task, Tasks}
 use Rattle.av_history.specs.Widths.{width_at, read_width, PicksAsWide}
 use Rattle.av_history.specs.Places.{EachPlace}
@@ -37,12 +37,12 @@ abbrev pub read_of : ℕ → ℕ → Option Point → Read
 read_of place n None = number n
 read_of place n (Some y) = at_point place y
 
-abbrev pub read_by : Option Handing → ℕ → Point → Point → Read
+abbrev pub read_by : Option Pipeline → ℕ → Point → Point → Read
 read_by None place y z = at_point place y
 read_by (Some h) place y z = of_helper h.number z
 
 -- a reference with a helper reads the helper's word at its own point
-abbrev pub read_at : Option Handing → Tree → Point → Read
+abbrev pub read_at : Option Pipeline → Tree → Point → Read
 read_at h (reference place m) z = read_by h place (image m.rows z) z
 read_at h (pick place choices n) z = read_of place n (picked choices z)
 read_at h _ z = nothing
@@ -50,7 +50,7 @@ read_at h _ z = nothing
 -- ---- what is brought
 
 -- the port is to have the point in this cycle
-pub record IsPresented (s : FlatSystem) (Fed : Feeding) (c : ℕ) (source : Source) (place : ℕ) (y : Point) : Type 0 where
+pub record IsPresented (s : FlatSystem) (Fed : Feeding) (c : ℕ) (source : WordSource) (place : ℕ) (y : Point) : Type 0 where
   pub port : ℕ
   pub from_port : source ≡ Input port
   pub variable : Signature
@@ -59,7 +59,7 @@ pub record IsPresented (s : FlatSystem) (Fed : Feeding) (c : ℕ) (source : Sour
   pub fed : Fed port variable.name y c
 
 -- a lane has the word of the point so many cycles earlier
-pub record IsOfLane (At : Placement) (c : ℕ) (source : Source) (place : ℕ) (y : Point) : Type 0 where
+pub record IsOfLane (At : Placement) (c : ℕ) (source : WordSource) (place : ℕ) (y : Point) : Type 0 where
   pub lane : ℕ
   pub delay : ℕ
   pub cycle : ℕ
@@ -68,28 +68,28 @@ pub record IsOfLane (At : Placement) (c : ℕ) (source : Source) (place : ℕ) (
   pub later : cycle + delay ≡ c
 
 -- and at least one cycle
-pub record IsEarlier (At : Placement) (c : ℕ) (source : Source) (place : ℕ) (y : Point) : Type 0 where
+pub record IsEarlier (At : Placement) (c : ℕ) (source : WordSource) (place : ℕ) (y : Point) : Type 0 where
   pub of_lane : IsOfLane At c source place y
   pub some : 0 < of_lane.delay
 
 -- the source has in this cycle the word of the point
-abbrev pub IsPointBrought : FlatSystem → Feeding → Placement → ℕ → Source → ℕ → Point → Type 0
+abbrev pub IsPointBrought : FlatSystem → Feeding → Placement → ℕ → WordSource → ℕ → Point → Type 0
 IsPointBrought s Fed At c source place y = IsPresented s Fed c source place y ⊎ IsEarlier At c source place y
 
 -- at an entry point a helper is brought its reference's word, of the width of what is read
-pub record IsEntered (s : FlatSystem) (Fed : Feeding) (At : Placement) (c : ℕ) (source : Source) (bits : ℕ) (h : Helper) (piece : Piece) (r : Reference) (z : Point) : Type 0 where
+pub record IsEntered (s : FlatSystem) (Fed : Feeding) (At : Placement) (c : ℕ) (source : WordSource) (bits : ℕ) (h : Helper) (piece : Piece) (r : Reference) (z : Point) : Type 0 where
   pub entry : IsEntry piece.domain h.direction z
   pub point : IsPointBrought s Fed At c source r.place (image r.map.rows z)
   pub wide : bits ≡ width_at s r.place
 
 -- and else its own word at the point before, of the helper's own width
-pub record IsHandedOn (Hand : Placement) (c : ℕ) (source : Source) (bits : ℕ) (own : ℕ) (h : Helper) (j : ℕ) (piece : Piece) (z : Point) : Type 0 where
+pub record IsHandedOn (Hand : Placement) (c : ℕ) (source : WordSource) (bits : ℕ) (own : ℕ) (h : Helper) (j : ℕ) (piece : Piece) (z : Point) : Type 0 where
   pub inside : IsTrue (has piece.domain (before z h.direction))
   pub earlier : IsEarlier Hand c source j (before z h.direction)
   pub wide : bits ≡ own
 
 -- the source has in this cycle a word of so many bits that brings the word of the helper j at the point
-pub record IsHelperBrought (s : FlatSystem) (hs : List Helper) (Fed : Feeding) (At Hand : Placement) (c : ℕ) (source : Source) (bits j : ℕ) (z : Point) : Type 0 where
+pub record IsHelperBrought (s : FlatSystem) (hs : List Helper) (Fed : Feeding) (At Hand : Placement) (c : ℕ) (source : WordSource) (bits j : ℕ) (z : Point) : Type 0 where
   pub helper : Helper
   pub helper_is : slice_get hs j ≡ Some helper
   pub variable : Variable
@@ -102,7 +102,7 @@ pub record IsHelperBrought (s : FlatSystem) (hs : List Helper) (Fed : Feeding) (
   pub brought : IsEntered s Fed At c source bits helper piece read z ⊎ IsHandedOn Hand c source bits variable.width helper j piece z
 
 -- the source has in this cycle what is read; a helper's word is that of its lane, maybe of the same cycle
-abbrev pub IsBrought : FlatSystem → Feeding → Placement → Placement → ℕ → Source → Read → Type 0
+abbrev pub IsBrought : FlatSystem → Feeding → Placement → Placement → ℕ → WordSource → Read → Type 0
 IsBrought s Fed At Hand c source (number n) = source ≡ Word n
 IsBrought s Fed At Hand c source (at_point place y) = IsPointBrought s Fed At c source place y
 IsBrought s Fed At Hand c source (of_helper j z) = IsOfLane Hand c source j z

@@ -16,16 +16,16 @@ use Rattle.av_flat.specs.Nodes.{is_node, nodes, number_at}
 use Rattle.av_flat.specs.Broadcasts.{Reference, references}
 use Rattle.av_flat.specs.Helped.{before, IsEntry}
 use Rattle.av_net.specs.declared.design.Entry.{Entry}
-use Rattle.av_space.specs.Taps.{node_place, Handing, helper_at, IsReadAt, Way, each, entries, handed, Tap, IsTapRead, IsTapped}
+use Rattle.av_space.specs.Taps.{node_place, Pipeline, helper_at, IsReadAt, Way, each, entries, handed, Tap, IsTapRead, IsTapped}
 use Rattle.av_space.specs.Links.{IsStretch}
 use Rattle.av_space.specs.Ports.{IsFed}
 use Rattle.av_space.specs.Listings.{InLine, IsInLine, input_name}
-use Rattle.av_kinds.specs.declared.program.Source.{Source}
-use Rattle.av_kinds.specs.declared.program.Source.TheVariants.{Line}
+use Rattle.av_kinds.specs.declared.program.WordSource.{WordSource}
+use Rattle.av_kinds.specs.declared.program.WordSource.TheVariants.{Line}
 use Rattle.av_kinds.specs.Histories.{Task, Tasks}
 use Rattle.av_history.specs.Widths.{read_width, PicksAsWide}
 use Rattle.av_history.specs.Places.{EachPlace}
-use Rattle.av_history.specs.Performing.{Array, ComputesOn, Lanes, Spot, IsLinked, IsReferenceSource, by_port, by_link, IsHandSource, hand_width, IsHelpedSource, IsPickSource, IsPlaceSource, IsHelper, helper_spot, Perform}
+use Rattle.av_history.specs.Performing.{Array, ComputesOn, Lanes, Spot, IsLinked, IsReferenceSource, by_port, by_link, IsPipelineSource, pipeline_width, IsHelpedSource, IsPickSource, IsPlaceSource, IsHelper, helper_spot, Perform}
 use Rattle.av_history.specs.Arranged.{IsArranged}
 use Rattle.av_history.proofs.Serves.{Placement, Feeding, read_of, read_by, read_at, IsEarlier, IsPointBrought, IsEntered, IsHandedOn, IsBrought, IsWorked, IsHandled, Serves}
 use Rattle.av_history.proofs.Words.{place_weaker, place_both}
@@ -83,14 +83,14 @@ some_of x y o e f = some_is x y (sym e ∙ f)
 
 -- ---- the helper of a reference
 
-pub record IsMovedBy (a : Array) (at : Spot) (place : ℕ) (m : Map) (o : Handing) : Type 0 where
+pub record IsMovedBy (a : Array) (at : Spot) (place : ℕ) (m : Map) (o : Pipeline) : Type 0 where
   pub helper : Helper
   pub is : IsHelper a o.number helper at.variable at.piece (record { place = place; map = m })
   pub node : at.node ≡ number_at a.system helper.var
   pub piece : helper.piece ≡ at.number
 
 pub moved_by : (a : Array) (at : Spot) → slice_get at.variable.pieces at.number ≡ Some at.piece → (own : ℕ) → slice_get a.system.variables own ≡ Some at.variable → is_node at.variable ≡ true → at.node ≡ number_at a.system own
-    → (i place : ℕ) (m : Map) (o : Handing) → helper_at a.helpers own at.number i ≡ Some o → slice_get (references at.piece.tree) i ≡ Some (record { place = place; map = m }) → IsMovedBy a at place m o
+    → (i place : ℕ) (m : Map) (o : Pipeline) → helper_at a.helpers own at.number i ≡ Some o → slice_get (references at.piece.tree) i ≡ Some (record { place = place; map = m }) → IsMovedBy a at place m o
 moved_by a at is_piece own is_own node number i place m o e is_reference =
     let f = found_helper a.helpers 0 own at.number i o e in
     let at_is : f.at ≡ o.number = sym (f.number_is ∙ omega arith) in
@@ -175,7 +175,7 @@ module _ (a : Array) (g : IsArranged a) (lanes : Lanes) (start : ℕ) where
 
   -- the word of a computed point
   from_value : (b c producer delay place : ℕ) (y : Point) → b + start ≡ c → (read : Variable) → slice_get a.system.variables place ≡ Some read → is_node read ≡ true → IsFrom a b producer delay (number_at a.system place) y
-      → (source : Source) → source ≡ Line (lanes.of_value producer) delay → IsEarlier At c source place y
+      → (source : WordSource) → source ≡ Line (lanes.of_value producer) delay → IsEarlier At c source place y
   from_value b c producer delay place y starts read is_read node f source is = record {
     of_lane = record {
       lane = lanes.of_value producer;
@@ -190,7 +190,7 @@ module _ (a : Array) (g : IsArranged a) (lanes : Lanes) (start : ℕ) where
 
   reference_brought : (at : Spot) (b c : ℕ) (z : Point) → b + start ≡ c → Reading a at b z → (i place : ℕ) (m : Map) (way : Way)
       → IsReadAt (helper_at a.helpers (node_place a.system at.node) at.number i) at.piece z → IsTapRead a.system at.node (reference place m) way at.piece z (number_at a.system place) (image m.rows z)
-      → (source : Source) → IsReferenceSource a lanes at b i place m way source → IsPointBrought a.system Fed At c source place (image m.rows z)
+      → (source : WordSource) → IsReferenceSource a lanes at b i place m way source → IsPointBrought a.system Fed At c source place (image m.rows z)
   reference_brought at b c z starts r i place m way entered reads source (by_port n read is_read is_in is_reference is_port) =
       let entry : Entry = record { variable = read.name; point = image m.rows z; wire = input_name n; cycle = b } in
       let fed : IsFed a.system a.helpers a.times a.cells (record { cell = at.cell; piece = at.number; site = i }) b z read m = record {
@@ -224,11 +224,11 @@ module _ (a : Array) (g : IsArranged a) (lanes : Lanes) (start : ℕ) where
   -- ---- words of helpers
 
   -- what brings the helper's word, by whether the point before is in the set
-  hand_brought : (j : ℕ) (h : Helper) (at : Spot) (read : Reference) → IsHelper a j h at.variable at.piece read
+  pipeline_brought : (j : ℕ) (h : Helper) (at : Spot) (read : Reference) → IsHelper a j h at.variable at.piece read
       → at.node ≡ number_at a.system h.var → at.number ≡ h.piece → (b c : ℕ) (z : Point) → b + start ≡ c → Reading a at b z → (inside : Bool) → has at.piece.domain (before z h.direction) ≡ inside
-      → (source : Source) (bits : ℕ) → bits ≡ hand_width a.system at.variable.width read.place inside → IsHandSource a lanes at j h.direction h.site read.place read.map inside b source
+      → (source : WordSource) (bits : ℕ) → bits ≡ pipeline_width a.system at.variable.width read.place inside → IsPipelineSource a lanes at j h.direction h.site read.place read.map inside b source
       → IsEntered a.system Fed At c source bits h at.piece read z ⊎ IsHandedOn Hand c source bits at.variable.width h j at.piece z
-  hand_brought j h at read is node number b c z starts r true e source bits wide (producer, delay, l, from) =
+  pipeline_brought j h at read is node number b c z starts r true e source bits wide (producer, delay, l, from) =
       let y = before z h.direction in
       let f = linked a g at b z r h.site (reference read.place read.map) (handed j h.direction) producer delay l at.node y (refl, refl, e) in
       inr (record {
@@ -258,12 +258,12 @@ module _ (a : Array) (g : IsArranged a) (lanes : Lanes) (start : ℕ) where
         };
         wide = wide;
       })
-  hand_brought j h at read is node number b c z starts r false e source bits wide brought =
+  pipeline_brought j h at read is node number b c z starts r false e source bits wide brought =
       let outside : has at.piece.domain (before z h.direction) ≡ true → ⊥ = λ f. both_tests (sym f ∙ e) in
       let entry : IsEntry at.piece.domain h.direction z = (r.within, outside) in
       let own : node_place a.system at.node ≡ h.var = ap (node_place a.system) node ∙ own_place a.system h.var at.variable is.is_variable is.is_node in
       let first : helper_at a.helpers (node_place a.system at.node) at.number h.site ≡ Some (record { number = j; direction = h.direction }) = rw (own, number) is.is_first in
-      let entered : IsReadAt (helper_at a.helpers (node_place a.system at.node) at.number h.site) at.piece z = subst (λ (o : Option Handing). IsReadAt o at.piece z) (sym first) entry in
+      let entered : IsReadAt (helper_at a.helpers (node_place a.system at.node) at.number h.site) at.piece z = subst (λ (o : Option Pipeline). IsReadAt o at.piece z) (sym first) entry in
       inl (record {
         entry = entry;
         point = reference_brought at b c z starts r h.site read.place read.map (entries h.direction) entered (entry, (read.place, (refl, refl), refl)) source brought;
@@ -277,11 +277,11 @@ module _ (a : Array) (g : IsArranged a) (lanes : Lanes) (start : ℕ) where
 
   -- a reference, by its helper: with one it reads the helper's lane on its own cell
   helped_brought : (at : Spot) (b c : ℕ) (z : Point) → b + start ≡ c → Reading a at b z → (own : ℕ) → slice_get a.system.variables own ≡ Some at.variable → is_node at.variable ≡ true
-      → at.node ≡ number_at a.system own → (i place : ℕ) (m : Map) (o : Option Handing) → helper_at a.helpers own at.number i ≡ o → node_place a.system at.node ≡ own
-      → (source : Source) → IsHelpedSource a lanes at o b i place m source → IsBrought a.system Fed At Hand c source (read_by o place (image m.rows z) z)
+      → at.node ≡ number_at a.system own → (i place : ℕ) (m : Map) (o : Option Pipeline) → helper_at a.helpers own at.number i ≡ o → node_place a.system at.node ≡ own
+      → (source : WordSource) → IsHelpedSource a lanes at o b i place m source → IsBrought a.system Fed At Hand c source (read_by o place (image m.rows z) z)
   helped_brought at b c z starts r own is_own node number i place m None e same source h =
       let none : helper_at a.helpers (node_place a.system at.node) at.number i ≡ None = ap (λ k. helper_at a.helpers k at.number i) same ∙ e in
-      reference_brought at b c z starts r i place m each (subst (λ (o : Option Handing). IsReadAt o at.piece z) (sym none) tt) (place, (refl, refl), refl) source h
+      reference_brought at b c z starts r i place m each (subst (λ (o : Option Pipeline). IsReadAt o at.piece z) (sym none) tt) (place, (refl, refl), refl) source h
   helped_brought at b c z starts r own is_own node number i place m (Some o) e same source h =
       let f = moved_by a at r.is_piece own is_own node number i place m o e h.0 in
       record {
@@ -306,14 +306,14 @@ module _ (a : Array) (g : IsArranged a) (lanes : Lanes) (start : ℕ) where
       }
 
   pick_brought : (at : Spot) (b c : ℕ) (z : Point) → b + start ≡ c → Reading a at b z → (i place : ℕ) (choices : List Choice) (n : ℕ) (o : Option Point)
-      → picked choices z ≡ o → (source : Source) → IsPickSource a lanes at b i place (pick place choices n) n o source → IsBrought a.system Fed At Hand c source (read_of place n o)
+      → picked choices z ≡ o → (source : WordSource) → IsPickSource a lanes at b i place (pick place choices n) n o source → IsBrought a.system Fed At Hand c source (read_of place n o)
   pick_brought at b c z starts r i place choices n None e source h = h
   pick_brought at b c z starts r i place choices n (Some y) e source (producer, delay, read, is_read, node, l, is) =
       inr (from_value b c producer delay place y starts read is_read node
       (linked a g at b z r i (pick place choices n) each producer delay l (number_at a.system place) y (place, (refl, e), refl)) source is)
 
   place_brought : (at : Spot) (b c : ℕ) (z : Point) → b + start ≡ c → Reading a at b z → (own : ℕ) → slice_get a.system.variables own ≡ Some at.variable → is_node at.variable ≡ true
-      → at.node ≡ number_at a.system own → node_place a.system at.node ≡ own → (i : ℕ) (t : Tree) (source : Source) → IsPlaceSource a lanes at z b i t source
+      → at.node ≡ number_at a.system own → node_place a.system at.node ≡ own → (i : ℕ) (t : Tree) (source : WordSource) → IsPlaceSource a lanes at z b i t source
       → IsBrought a.system Fed At Hand c source (read_at (helper_at a.helpers own at.number i) t z)
   place_brought at b c z starts r own is_own node number same i (reference place m) source h =
       helped_brought at b c z starts r own is_own node number i place m (helper_at a.helpers own at.number i) refl same source
@@ -404,7 +404,7 @@ module _ (a : Array) (g : IsArranged a) (lanes : Lanes) (start : ℕ) where
             read = read;
             read_is = h.is.is_reference;
             within = h.within;
-            brought = hand_brought j h.helper at read h.is refl refl b c z h.starts r (has piece.domain (before z h.helper.direction)) refl (task.sources 0) (task.widths 0) done.2.source_width done.2.source;
+            brought = pipeline_brought j h.helper at read h.is refl refl b c z h.starts r (has piece.domain (before z h.helper.direction)) refl (task.sources 0) (task.widths 0) done.2.source_width done.2.source;
           };
           wide = done.2.width;
           tree = done.2.tree;

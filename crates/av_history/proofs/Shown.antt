@@ -20,9 +20,9 @@ use Rattle.av_flat.specs.Solutions.{scene}
 use Rattle.av_flat.specs.declared.timed.Helper.{Helper}
 use Rattle.av_flat.specs.Broadcasts.{Reference, references}
 use Rattle.av_flat.specs.Helped.{before, IsEntry, PointWords, HelperWords, HasRead, HasHelped, helped_at, IsHelpedSolution}
-use Rattle.av_space.specs.Taps.{Handing, helper_from, helper_at}
-use Rattle.av_kinds.specs.declared.program.Source.{Source}
-use Rattle.av_kinds.specs.declared.program.Source.TheVariants.{Line}
+use Rattle.av_space.specs.Taps.{Pipeline, helper_from, helper_at}
+use Rattle.av_kinds.specs.declared.program.WordSource.{WordSource}
+use Rattle.av_kinds.specs.declared.program.WordSource.TheVariants.{Line}
 use Rattle.av_kinds.specs.Histories.{value_by, resized, Tasks, Signals, HasWord, IsHistory}
 use Rattle.av_history.specs.Widths.{width_at, handed_width, read_width, PicksAsWide}
 use Rattle.av_history.proofs.Serves.{Placement, Feeding, read_of, read_by, read_at, IsOfLane, IsPointBrought, IsHelperBrought, IsBrought, Serves}
@@ -61,7 +61,7 @@ some_same a b o e f = cc
 
 -- ---- helpers by reference
 
-abbrev words_by : HelperWords → Option Handing → Option PointWords
+abbrev words_by : HelperWords → Option Pipeline → Option PointWords
 words_by g None = None
 words_by g (Some h) = Some (g h.number)
 
@@ -86,8 +86,8 @@ abbrev pub HasValueOf : FlatSystem → Assignment → Signals → ℕ → Point 
 HasValueOf s u lanes place z p c = assigned u (slice_get (signatures s) place) z ≡ Some (lanes c p)
 
 -- and that of the helper
-abbrev pub HasHandOf : HelperWords → Signals → ℕ → Point → ℕ → ℕ → Type 0
-HasHandOf g lanes j z p c = g j z ≡ Some (lanes c p)
+abbrev pub HasPipelineWord : HelperWords → Signals → ℕ → Point → ℕ → ℕ → Type 0
+HasPipelineWord g lanes j z p c = g j z ≡ Some (lanes c p)
 
 module _ (s : FlatSystem) (hs : List Helper) (tasks : Tasks) (count : ℕ → ℕ) (Fed : Feeding) (At Hand : Placement) (x u : Assignment) (g : HelperWords) (n : ℕ) (ports lanes : Signals)
     (t : Setting s hs tasks count Fed At Hand x u g n ports lanes) where
@@ -95,20 +95,20 @@ module _ (s : FlatSystem) (hs : List Helper) (tasks : Tasks) (count : ℕ → �
   abbrev HasValues : ℕ → Type 0
   HasValues c = (place : ℕ) (z : Point) (p : ℕ) → At place z p c → HasValueOf s u lanes place z p c
 
-  abbrev HasHands : ℕ → Type 0
-  HasHands c = (j : ℕ) (z : Point) (p : ℕ) → Hand j z p c → HasHandOf g lanes j z p c
+  abbrev HavePipelineWords : ℕ → Type 0
+  HavePipelineWords c = (j : ℕ) (z : Point) (p : ℕ) → Hand j z p c → HasPipelineWord g lanes j z p c
 
   -- the word of a source that is a line
-  lane_word : (P : Placement) (c : ℕ) (source : Source) (b place : ℕ) (y : Point) → HasWord ports lanes c source b → (is : IsOfLane P c source place y) → b ≡ lanes is.cycle is.lane
+  lane_word : (P : Placement) (c : ℕ) (source : WordSource) (b place : ℕ) (y : Point) → HasWord ports lanes c source b → (is : IsOfLane P c source place y) → b ≡ lanes is.cycle is.lane
   lane_word P c source b place y on is =
-      let from_lane : HasWord ports lanes c (Line is.lane is.delay) b = subst (λ (r : Source). HasWord ports lanes c r b) is.from_line on in
+      let from_lane : HasWord ports lanes c (Line is.lane is.delay) b = subst (λ (r : WordSource). HasWord ports lanes c r b) is.from_line on in
       from_lane is.cycle is.later
 
   -- a source has the word of the point that it brings
-  point_word : (c : ℕ) → c < n → ((b : ℕ) → b < c → HasValues b) → (source : Source) (b : ℕ) → HasWord ports lanes c source b → (place : ℕ) (y : Point)
+  point_word : (c : ℕ) → c < n → ((b : ℕ) → b < c → HasValues b) → (source : WordSource) (b : ℕ) → HasWord ports lanes c source b → (place : ℕ) (y : Point)
       → IsPointBrought s Fed At c source place y → is_declared_at (signatures s) place y ≡ true → assigned u (slice_get (signatures s) place) y ≡ Some b
   point_word c lt earlier source b on place y (inl is) declared =
-      let on_port : b ≡ ports c is.port = subst (λ (r : Source). HasWord ports lanes c r b) is.from_port on in
+      let on_port : b ≡ ports c is.port = subst (λ (r : WordSource). HasWord ports lanes c r b) is.from_port on in
       let shown = t.presents is.port is.variable.name y c is.fed lt in
       let domain : has is.variable.domain y ≡ true = subst (λ (o : Option Signature). domain_has o y ≡ true) is.here declared in
       let same = t.solves.inputs is.variable.name y (declared_at is_input (signatures s) place is.variable y is.here is.is_input domain) in
@@ -118,22 +118,22 @@ module _ (s : FlatSystem) (hs : List Helper) (tasks : Tasks) (count : ℕ → �
       earlier l.cycle (omega (arith, is.some, l.later)) place y l.lane l.at ∙ ap Some (sym (lane_word At c source b place y on l))
 
   -- an equation of so many bits reads it as the place brings it
-  read_at_point : (c : ℕ) → c < n → ((b : ℕ) → b < c → HasValues b) → (source : Source) (b : ℕ) → HasWord ports lanes c source b → (bits place : ℕ) (y : Point) (a : ℕ)
+  read_at_point : (c : ℕ) → c < n → ((b : ℕ) → b < c → HasValues b) → (source : WordSource) (b : ℕ) → HasWord ports lanes c source b → (bits place : ℕ) (y : Point) (a : ℕ)
       → IsPointBrought s Fed At c source place y → IsWordAt (record { variables = signatures s; words = u; width = bits }) place y a → a ≡ resized (width_at s place) bits b
   read_at_point c lt earlier source b on bits place y a brought h =
       read_word s.variables u (recursion_from_All (λ (v : Variable). (z : Point) (w : ℕ) → u v.name z ≡ Some w → IsWord v.width w) s.variables t.solves.words) bits place y a b h.has
       (point_word c lt earlier source b on place y brought h.declared)
 
   -- and so does a pick, of words of the equation's width
-  pick_word : (c : ℕ) → c < n → ((b : ℕ) → b < c → HasValues b) → (source : Source) (b : ℕ) → HasWord ports lanes c source b → (bits place k : ℕ) → width_at s place ≡ bits → (o : Option Point) (a : ℕ)
+  pick_word : (c : ℕ) → c < n → ((b : ℕ) → b < c → HasValues b) → (source : WordSource) (b : ℕ) → HasWord ports lanes c source b → (bits place k : ℕ) → width_at s place ≡ bits → (o : Option Point) (a : ℕ)
       → IsBrought s Fed At Hand c source (read_of place k o) → HasPicked (record { variables = signatures s; words = u; width = bits }) place k o a → a ≡ b
   pick_word c lt earlier source b on bits place k wide None a brought h =
-      let number_is : b ≡ k = subst (λ (r : Source). HasWord ports lanes c r b) brought on in
+      let number_is : b ≡ k = subst (λ (r : WordSource). HasWord ports lanes c r b) brought on in
       h ∙ sym number_is
   pick_word c lt earlier source b on bits place k wide (Some y) a brought h = read_at_point c lt earlier source b on bits place y a brought h ∙ resized_same (width_at s place) bits b wide
 
   -- and of a helper: the reference's at an entry, else the helper's own of an earlier cycle
-  helper_word : (c : ℕ) → c < n → ((b : ℕ) → b < c → HasValues b) → ((b : ℕ) → b < c → HasHands b) → (source : Source) (b : ℕ) → HasWord ports lanes c source b
+  helper_word : (c : ℕ) → c < n → ((b : ℕ) → b < c → HasValues b) → ((b : ℕ) → b < c → HavePipelineWords b) → (source : WordSource) (b : ℕ) → HasWord ports lanes c source b
       → (bits j : ℕ) (z : Point) → (h : IsHelperBrought s hs Fed At Hand c source bits j z) → g j z ≡ Some (resized bits h.variable.width b)
   helper_word c lt earlier handed source b on bits j z h =
       let is = t.solves.helpers j h.helper h.helper_is in
@@ -158,8 +158,8 @@ module _ (s : FlatSystem) (hs : List Helper) (tasks : Tasks) (count : ℕ → �
   -- ---- places that read
 
   -- a reference has the word of its source
-  reference_word : (c : ℕ) → c < n → ((b : ℕ) → b < c → HasValues b) → ((b : ℕ) → b ≤ c → HasHands b) → (source : Source) (b : ℕ) → HasWord ports lanes c source b
-      → (v : Variable) (z : Point) (place : ℕ) (m : Map) (h : Option Handing) → IsBrought s Fed At Hand c source (read_by h place (image m.rows z) z)
+  reference_word : (c : ℕ) → c < n → ((b : ℕ) → b < c → HasValues b) → ((b : ℕ) → b ≤ c → HavePipelineWords b) → (source : WordSource) (b : ℕ) → HasWord ports lanes c source b
+      → (v : Variable) (z : Point) (place : ℕ) (m : Map) (h : Option Pipeline) → IsBrought s Fed At Hand c source (read_by h place (image m.rows z) z)
       → (a : ℕ) → HasRead (scene s u v) place m (words_by g h) z a → a ≡ resized (handed_width s v.width h place) v.width b
   reference_word c lt earlier handed source b on v z place m None brought a h = read_at_point c lt earlier source b on v.width place (image m.rows z) a brought h
   reference_word c lt earlier handed source b on v z place m (Some o) l a h =
@@ -167,7 +167,7 @@ module _ (s : FlatSystem) (hs : List Helper) (tasks : Tasks) (count : ℕ → �
       some_same a (lanes l.cycle l.lane) (g o.number z) h known ∙ sym (lane_word Hand c source b o.number z on l) ∙ sym (resized_same v.width v.width b refl)
 
   -- what a place reads has the word of its source
-  place_word : (c : ℕ) → c < n → ((b : ℕ) → b < c → HasValues b) → ((b : ℕ) → b ≤ c → HasHands b) → (source : Source) (b : ℕ) → HasWord ports lanes c source b
+  place_word : (c : ℕ) → c < n → ((b : ℕ) → b < c → HasValues b) → ((b : ℕ) → b ≤ c → HavePipelineWords b) → (source : WordSource) (b : ℕ) → HasWord ports lanes c source b
       → (v : Variable) (own number : ℕ) (z : Point) (i : ℕ) (tree : Tree) → IsBrought s Fed At Hand c source (read_at (helper_at hs own number i) tree z) → PicksAsWide s v.width tree
       → (a : ℕ) → HasHelped (scene s u v) (helped_at hs g 0 own number) i tree z a → a ≡ resized (read_width s v.width (helper_at hs own number i) tree) v.width b
   place_word c lt earlier handed source b on v own number z i (reference place m) brought wide a h =
@@ -180,7 +180,7 @@ module _ (s : FlatSystem) (hs : List Helper) (tasks : Tasks) (count : ℕ → �
   -- ---- by the cycle
 
   -- the words of the helpers in one cycle, from the cycles before it
-  one_rank : (c : ℕ) → c < n → ((b : ℕ) → b < c → HasValues b) → ((b : ℕ) → b < c → HasHands b) → HasHands c
+  one_rank : (c : ℕ) → c < n → ((b : ℕ) → b < c → HasValues b) → ((b : ℕ) → b < c → HavePipelineWords b) → HavePipelineWords c
   one_rank c lt earlier handed j z p at =
       let h = t.serves.helpers j z p c at in
       let task = h.task in
@@ -190,7 +190,7 @@ module _ (s : FlatSystem) (hs : List Helper) (tasks : Tasks) (count : ℕ → �
       helper_word c lt earlier handed (task.sources 0) (done.brought 0) (done.has 0) (task.widths 0) j z h.brought ∙ ap Some (wide ∙ sym on_lane)
 
   -- those of the computations, from those and from the cycles before
-  one_cycle : (c : ℕ) → c < n → ((b : ℕ) → b < c → HasValues b) → ((b : ℕ) → b ≤ c → HasHands b) → HasValues c
+  one_cycle : (c : ℕ) → c < n → ((b : ℕ) → b < c → HasValues b) → ((b : ℕ) → b ≤ c → HavePipelineWords b) → HasValues c
   one_cycle c lt earlier handed place z p at =
       let h = t.serves.values place z p c at in
       let v = h.variable in
@@ -208,15 +208,15 @@ module _ (s : FlatSystem) (hs : List Helper) (tasks : Tasks) (count : ℕ → �
       ap (λ (o : Option Signature). assigned u o z) (signature_at s.variables place v h.variable_is) ∙ satisfied.1 ∙ ap Some same
 
   -- all cycles before one: in each the helpers before the computations
-  before_cycle : (m c : ℕ) → c < m → c < n → HasHands c × HasValues c
+  before_cycle : (m c : ℕ) → c < m → c < n → HavePipelineWords c × HasValues c
   before_cycle zero c lt late = absurd (omega arith)
   before_cycle (suc m) c lt late =
       let values : (b : ℕ) → b < c → HasValues b = λ b below. (before_cycle m b (omega arith) (omega arith)).1 in
-      let hands : (b : ℕ) → b < c → HasHands b = λ b below. (before_cycle m b (omega arith) (omega arith)).0 in
+      let hands : (b : ℕ) → b < c → HavePipelineWords b = λ b below. (before_cycle m b (omega arith) (omega arith)).0 in
       let now = one_rank c late values hands in
-      let up_to : (b : ℕ) → b ≤ c → HasHands b = λ b le. elim (cases_lt b c) [
+      let up_to : (b : ℕ) → b ≤ c → HavePipelineWords b = λ b le. elim (cases_lt b c) [
         | inl less ↦ hands b less
-        | inr more ↦ (let e : c ≡ b = omega arith in subst HasHands e now)
+        | inr more ↦ (let e : c ≡ b = omega arith in subst HavePipelineWords e now)
       ] in
       (now, one_cycle c late values up_to)
 
@@ -225,5 +225,5 @@ module _ (s : FlatSystem) (hs : List Helper) (tasks : Tasks) (count : ℕ → �
   computed c lt place z p at = (before_cycle (suc c) c (omega arith) lt).1 place z p at
 
   -- And so is each helper's word.
-  pub handed : (c : ℕ) → c < n → (j : ℕ) (z : Point) (p : ℕ) → Hand j z p c → HasHandOf g lanes j z p c
+  pub handed : (c : ℕ) → c < n → (j : ℕ) (z : Point) (p : ℕ) → Hand j z p c → HasPipelineWord g lanes j z p c
   handed c lt j z p at = (before_cycle (suc c) c (omega arith) lt).0 j z p at

@@ -13,7 +13,7 @@ use Rattle.av_net.specs.declared.netlist.Drive.{Drive}
 use Rattle.av_net.specs.declared.operation.Operation.{Operation}
 use Rattle.av_net.specs.declared.operation.Operation.TheVariants.{Plain, Binary, Signed, Choose, Part, Widen}
 use Rattle.av_flat.specs.Trees.{Tree, reference, constant, binary, choice, pick}
-use Rattle.av_kinds.specs.declared.gates.Gate.{Gate}
+use Rattle.av_kinds.specs.declared.gates.LaneGate.{LaneGate}
 use Rattle.av_kinds.specs.Names.{inner_name, Naming}
 use Rattle.av_kinds.specs.inner.Gates.{gate, Built, built, Named, named, named_by, drives_from}
 use Rattle.av_kinds.specs.Programs.{site_count}
@@ -32,7 +32,7 @@ use Rattle.av_kinds.specs.inner.Kinds.{lane_built, output_of, lanes_drives}
 use Rattle.av_kinds.specs.inner.Weights as weights
 use Rattle.av_kinds.specs.inner.Weights.{Weights, of_operation, of_gates, of_sign, of_tree, of_lanes, of_drives}
 
-gates_of : (k : Weights) (xs ys : List Gate) → of_gates k (xs ++ ys) ≡ of_gates k xs + of_gates k ys
+gates_of : (k : Weights) (xs ys : List LaneGate) → of_gates k (xs ++ ys) ≡ of_gates k xs + of_gates k ys
 gates_of k [] ys = omega arith
 gates_of k (x ∷ xs) ys = omega (arith, gates_of k xs ys)
 
@@ -40,7 +40,7 @@ gates_of k (x ∷ xs) ys = omega (arith, gates_of k xs ys)
 abbrev pub of_built : Weights → Built → ℕ
 of_built k b = of_gates k b.gates + of_operation k b.root
 
-named_of : (k : Weights) (name : Naming) (n : ℕ) (w : Width) (gates : List Gate) (root : Operation) → of_gates k (named_by name n w gates root).gates ≡ of_gates k gates + of_operation k root
+named_of : (k : Weights) (name : Naming) (n : ℕ) (w : Width) (gates : List LaneGate) (root : Operation) → of_gates k (named_by name n w gates root).gates ≡ of_gates k gates + of_operation k root
 named_of k name n w gates (Plain a) = omega arith
 named_of k name n w gates (Binary a s b) = omega (arith, gates_of k gates (gate w (Binary a s b) ∷ []))
 named_of k name n w gates (Signed a s b) = omega (arith, gates_of k gates (gate w (Signed a s b) ∷ []))
@@ -48,7 +48,7 @@ named_of k name n w gates (Choose c a b) = omega (arith, gates_of k gates (gate 
 named_of k name n w gates (Part a high low) = omega (arith, gates_of k gates (gate w (Part a high low) ∷ []))
 named_of k name n w gates (Widen a by) = omega (arith, gates_of k gates (gate w (Widen a by) ∷ []))
 
-joined_of : (k : Weights) (name : Naming) (n : ℕ) (g : Sign) (gates : List Gate) (a b : Operand) → of_built k (joined name n g gates a b) ≡ of_gates k gates + of_sign k g
+joined_of : (k : Weights) (name : Naming) (n : ℕ) (g : Sign) (gates : List LaneGate) (a b : Operand) → of_built k (joined name n g gates a b) ≡ of_gates k gates + of_sign k g
 joined_of k name n sign.Add gates a b = omega arith
 joined_of k name n sign.Sub gates a b = omega arith
 joined_of k name n sign.Mul gates a b = omega arith
@@ -212,7 +212,7 @@ shapes_have k at (f ∷ g ∷ shapes) = omega (arith, shapes_have k (past_tested
 lane_has : (k : Weights) (counter : Operand) (at : PortCounts) (n : ℕ) (lane : LaneShape) → of_built k (lane_built counter at n lane) ≡ weights.of_modes k lane.modes
 lane_has k counter at n lane = omega (arith, modes_have k (inner_name n) lane.width counter 0 (last_of at lane.modes) (tested_of at lane.modes), shapes_have k at lane.modes)
 
-drives_of : (k : Weights) (name : Naming) (n : ℕ) (gates : List Gate) → of_drives k (drives_from name n gates) ≡ of_gates k gates
+drives_of : (k : Weights) (name : Naming) (n : ℕ) (gates : List LaneGate) → of_drives k (drives_from name n gates) ≡ of_gates k gates
 drives_of k name n [] = refl
 drives_of k name n (g ∷ gates) = omega (arith, drives_of k name (n + 1) gates)
 

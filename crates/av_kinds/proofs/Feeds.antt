@@ -9,12 +9,12 @@ use Rattle.av_net.specs.Meaning.{Widths, operand_width}
 use Rattle.av_net.specs.Names.{IsAmong}
 use Rattle.av_net.specs.Sound.{IsFitting}
 use Rattle.av_net.specs.Plans.{SuitPorts}
-use Rattle.av_kinds.specs.declared.program.Source.{Source}
-use Rattle.av_kinds.specs.declared.program.Interval.{Interval}
-use Rattle.av_kinds.specs.declared.program.Link.{Link}
+use Rattle.av_kinds.specs.declared.program.WordSource.{WordSource}
+use Rattle.av_kinds.specs.declared.program.Window.{Window}
+use Rattle.av_kinds.specs.declared.program.Selection.{Selection}
 use Rattle.av_kinds.specs.declared.program.Inlet.{Inlet}
 use Rattle.av_kinds.specs.declared.program.Inlet.TheVariants.{Inputs, Taps, Pipe}
-use Rattle.av_kinds.specs.declared.program.Site.{Site}
+use Rattle.av_kinds.specs.declared.program.ProgramSite.{ProgramSite}
 use Rattle.av_kinds.specs.declared.shape.SiteShape.{SiteShape}
 use Rattle.av_kinds.specs.Programs.{Mode, mode_at, Lane}
 use Rattle.av_kinds.specs.Names.{Naming, Labels, input_name, tap_name, kind_counter}
@@ -22,9 +22,9 @@ use Rattle.av_kinds.specs.Counters.{counter_width}
 use Rattle.av_kinds.specs.Tops.{port}
 use Rattle.av_kinds.specs.inner.Counts.{bound}
 use Rattle.av_kinds.specs.inner.Shapes.{ModeShape, LaneShape, SuitsSite, SuitSites, SuitsMode, SuitModes, SuitLanes}
-use Rattle.av_kinds.specs.inner.Interfaces.{PortCounts, ports_by, bounds_by, ports_in, past_site, site_ports, sites_ports, past_sites, interval_ports, tested_ports, past_tested, modes_ports, past_modes}
+use Rattle.av_kinds.specs.inner.Interfaces.{PortCounts, ports_by, bounds_by, ports_in, past_site, site_ports, sites_ports, past_sites, window_ports, tested_ports, past_tested, modes_ports, past_modes}
 use Rattle.av_kinds.specs.inner.Kinds.{counts, no_ports, lanes_inputs, kind_inputs}
-use Rattle.av_kinds.specs.inner.Instances.{operand_of, words_for, bounds_for, operands_in, site_operands, sites_operands, intervals_for, tested_operands, modes_operands, lanes_operands, cell_operands}
+use Rattle.av_kinds.specs.inner.Instances.{operand_of, words_for, bounds_for, operands_in, site_operands, sites_operands, windows_for, tested_operands, modes_operands, lanes_operands, cell_operands}
 
 -- what may stand at a port
 pub record IsFeed (given : List (List ℕ)) (W : Widths) (a : Operand) (w : ℕ) : Type 0 where
@@ -68,45 +68,45 @@ module _ (given : List (List ℕ)) (W : Widths) (names : Labels) where
   pub bound_feed : (n : ℕ) → n < 2 ^ 12 → IsFeed given W (bound n) counter_width.bits
   bound_feed n lt = record { known = tt; wide = refl; fits = lt }
 
-  abbrev pub IsSourceFeed : Width → Source → Type 0
+  abbrev pub IsSourceFeed : Width → WordSource → Type 0
   IsSourceFeed w source = IsFeed given W (operand_of names w source) w.bits
 
-  words_feed : (letter : Naming) (w : Width) (k n : ℕ) (links : List Link) (otherwise : Source) → AllByRecursion (λ (l : Link). IsSourceFeed w l.source) links → IsSourceFeed w otherwise → length links ≤ n
-      → Feed (words_for (operand_of names w) n links otherwise) (ports_by letter w k (suc n))
+  words_feed : (letter : Naming) (w : Width) (k n : ℕ) (selections : List Selection) (otherwise : WordSource) → AllByRecursion (λ (l : Selection). IsSourceFeed w l.source) selections → IsSourceFeed w otherwise → length selections ≤ n
+      → Feed (words_for (operand_of names w) n selections otherwise) (ports_by letter w k (suc n))
   words_feed letter w k zero [] otherwise each last room = (last, tt)
-  words_feed letter w k zero (l ∷ links) otherwise each last room = absurd (omega (arith, room))
+  words_feed letter w k zero (l ∷ selections) otherwise each last room = absurd (omega (arith, room))
   words_feed letter w k (suc n) [] otherwise each last room = (last, words_feed letter w (k + 1) n [] otherwise tt last (omega arith))
-  words_feed letter w k (suc n) (l ∷ links) otherwise each last room = (each.0, words_feed letter w (k + 1) n links otherwise each.1 last (omega (arith, room)))
+  words_feed letter w k (suc n) (l ∷ selections) otherwise each last room = (each.0, words_feed letter w (k + 1) n selections otherwise each.1 last (omega (arith, room)))
 
-  bounds_feed : (k n : ℕ) (links : List Link) → AllByRecursion (λ (l : Link). l.last < 2 ^ 12) links → Feed (bounds_for n links) (bounds_by k n)
-  bounds_feed k zero links each = tt
+  bounds_feed : (k n : ℕ) (selections : List Selection) → AllByRecursion (λ (l : Selection). l.last < 2 ^ 12) selections → Feed (bounds_for n selections) (bounds_by k n)
+  bounds_feed k zero selections each = tt
   bounds_feed k (suc n) [] each = (bound_feed 0 (omega arith), bounds_feed (k + 1) n [] tt)
-  bounds_feed k (suc n) (l ∷ links) each = (bound_feed l.last each.0, bounds_feed (k + 1) n links each.1)
+  bounds_feed k (suc n) (l ∷ selections) each = (bound_feed l.last each.0, bounds_feed (k + 1) n selections each.1)
 
   -- the sources of a place that has ports
-  abbrev pub InletFeeds : Inlet → Width → Site → Type 0
-  InletFeeds Inputs w site = AllByRecursion (λ (l : Link). IsSourceFeed w l.source) site.links × AllByRecursion (λ (l : Link). l.last < 2 ^ 12) site.links × IsSourceFeed w site.otherwise
-  InletFeeds Taps w site = AllByRecursion (λ (l : Link). IsSourceFeed w l.source) site.links × AllByRecursion (λ (l : Link). l.last < 2 ^ 12) site.links × IsSourceFeed w site.otherwise
+  abbrev pub InletFeeds : Inlet → Width → ProgramSite → Type 0
+  InletFeeds Inputs w site = AllByRecursion (λ (l : Selection). IsSourceFeed w l.source) site.selections × AllByRecursion (λ (l : Selection). l.last < 2 ^ 12) site.selections × IsSourceFeed w site.otherwise
+  InletFeeds Taps w site = AllByRecursion (λ (l : Selection). IsSourceFeed w l.source) site.selections × AllByRecursion (λ (l : Selection). l.last < 2 ^ 12) site.selections × IsSourceFeed w site.otherwise
   InletFeeds (Pipe h) w site = Unit {0}
 
-  abbrev pub SiteFeeds : Site → Type 0
+  abbrev pub SiteFeeds : ProgramSite → Type 0
   SiteFeeds site = InletFeeds site.inlet site.width site
 
-  site_feed : (at : PortCounts) (shape : SiteShape) (site : Site) → SuitsSite shape site → SiteFeeds site → Feed (site_operands names shape site) (site_ports at shape)
+  site_feed : (at : PortCounts) (shape : SiteShape) (site : ProgramSite) → SuitsSite shape site → SiteFeeds site → Feed (site_operands names shape site) (site_ports at shape)
   site_feed at shape site suits feeds =
       let by_shape : InletFeeds shape.inlet shape.width site = subst (λ (w : Width). InletFeeds shape.inlet w site) suits.width (subst (λ i. InletFeeds i site.width site) suits.inlet feeds) in
       by_inlet shape.inlet by_shape
     where
-      by_inlet : (i : Inlet) → InletFeeds i shape.width site → Feed (operands_in names i shape.width shape.links site) (ports_in at i shape.width shape.links)
+      by_inlet : (i : Inlet) → InletFeeds i shape.width site → Feed (operands_in names i shape.width shape.selections site) (ports_in at i shape.width shape.selections)
       by_inlet Inputs h =
-          feed_joined (words_for (operand_of names shape.width) shape.links site.links site.otherwise) (bounds_for shape.links site.links) (ports_by input_name shape.width at.inputs (suc shape.links)) (bounds_by at.bounds shape.links)
-          (words_feed input_name shape.width at.inputs shape.links site.links site.otherwise h.0 h.2 suits.room) (bounds_feed at.bounds shape.links site.links h.1)
+          feed_joined (words_for (operand_of names shape.width) shape.selections site.selections site.otherwise) (bounds_for shape.selections site.selections) (ports_by input_name shape.width at.inputs (suc shape.selections)) (bounds_by at.bounds shape.selections)
+          (words_feed input_name shape.width at.inputs shape.selections site.selections site.otherwise h.0 h.2 suits.room) (bounds_feed at.bounds shape.selections site.selections h.1)
       by_inlet Taps h =
-          feed_joined (words_for (operand_of names shape.width) shape.links site.links site.otherwise) (bounds_for shape.links site.links) (ports_by tap_name shape.width at.taps (suc shape.links)) (bounds_by at.bounds shape.links)
-          (words_feed tap_name shape.width at.taps shape.links site.links site.otherwise h.0 h.2 suits.room) (bounds_feed at.bounds shape.links site.links h.1)
+          feed_joined (words_for (operand_of names shape.width) shape.selections site.selections site.otherwise) (bounds_for shape.selections site.selections) (ports_by tap_name shape.width at.taps (suc shape.selections)) (bounds_by at.bounds shape.selections)
+          (words_feed tap_name shape.width at.taps shape.selections site.selections site.otherwise h.0 h.2 suits.room) (bounds_feed at.bounds shape.selections site.selections h.1)
       by_inlet (Pipe n) h = tt
 
-  sites_feed : (at : PortCounts) (shapes : List SiteShape) (sites : List Site) → SuitSites shapes sites → AllByRecursion SiteFeeds sites → Feed (sites_operands names shapes sites) (sites_ports at shapes)
+  sites_feed : (at : PortCounts) (shapes : List SiteShape) (sites : List ProgramSite) → SuitSites shapes sites → AllByRecursion SiteFeeds sites → Feed (sites_operands names shapes sites) (sites_ports at shapes)
   sites_feed at [] [] suit feeds = tt
   sites_feed at (shape ∷ shapes) (site ∷ sites) suit feeds =
       feed_joined (site_operands names shape site) (sites_operands names shapes sites) (site_ports at shape) (sites_ports (past_site at shape) shapes) (site_feed at shape site suit.0 feeds.0) (sites_feed (past_site at shape) shapes sites suit.1 feeds.1)
@@ -115,19 +115,19 @@ module _ (given : List (List ℕ)) (W : Widths) (names : Labels) where
 
   -- ---- a mode
 
-  intervals_feed : (b n : ℕ) (intervals : List Interval) → AllByRecursion (λ (i : Interval). (i.first < 2 ^ 12) × (i.last < 2 ^ 12)) intervals → Feed (intervals_for n intervals) (interval_ports b n)
-  intervals_feed b zero intervals each = tt
-  intervals_feed b (suc n) [] each = (bound_feed 1 (omega arith), (bound_feed 0 (omega arith), intervals_feed (b + 2) n [] tt))
-  intervals_feed b (suc n) (i ∷ intervals) each = (bound_feed i.first each.0.0, (bound_feed i.last each.0.1, intervals_feed (b + 2) n intervals each.1))
+  windows_feed : (b n : ℕ) (windows : List Window) → AllByRecursion (λ (i : Window). (i.first < 2 ^ 12) × (i.last < 2 ^ 12)) windows → Feed (windows_for n windows) (window_ports b n)
+  windows_feed b zero windows each = tt
+  windows_feed b (suc n) [] each = (bound_feed 1 (omega arith), (bound_feed 0 (omega arith), windows_feed (b + 2) n [] tt))
+  windows_feed b (suc n) (i ∷ windows) each = (bound_feed i.first each.0.0, (bound_feed i.last each.0.1, windows_feed (b + 2) n windows each.1))
 
   pub record ModeFeeds (mode : Mode) : Type 0 where
     pub sites : AllByRecursion SiteFeeds mode.work.sites
-    pub intervals : AllByRecursion (λ (i : Interval). (i.first < 2 ^ 12) × (i.last < 2 ^ 12)) mode.intervals
+    pub windows : AllByRecursion (λ (i : Window). (i.first < 2 ^ 12) × (i.last < 2 ^ 12)) mode.windows
 
   tested_feed : (at : PortCounts) (shape : ModeShape) (mode : Mode) → SuitsMode shape mode → ModeFeeds mode → Feed (tested_operands names shape mode) (tested_ports at shape)
   tested_feed at shape mode suits feeds =
-      feed_joined (sites_operands names shape.sites mode.work.sites) (intervals_for shape.intervals mode.intervals) (sites_ports at shape.sites) (interval_ports (past_sites at shape.sites).bounds shape.intervals)
-      (sites_feed at shape.sites mode.work.sites suits.sites feeds.sites) (intervals_feed (past_sites at shape.sites).bounds shape.intervals mode.intervals feeds.intervals)
+      feed_joined (sites_operands names shape.sites mode.work.sites) (windows_for shape.windows mode.windows) (sites_ports at shape.sites) (window_ports (past_sites at shape.sites).bounds shape.windows)
+      (sites_feed at shape.sites mode.work.sites suits.sites feeds.sites) (windows_feed (past_sites at shape.sites).bounds shape.windows mode.windows feeds.windows)
 
   -- ---- lanes
 

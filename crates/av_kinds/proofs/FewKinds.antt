@@ -12,12 +12,12 @@ use Rattle.av_kinds.specs.Names.{input_name, tap_name, bound_name, inner_name, k
 use Rattle.av_kinds.specs.Counters.{counter_width}
 use Rattle.av_kinds.specs.inner.Gates.{ports_from}
 use Rattle.av_kinds.specs.inner.Shapes.{ModeShape, LaneShape}
-use Rattle.av_kinds.specs.inner.Interfaces.{PortCounts, ports_by, bounds_by, ports_in, past, site_ports, past_site, sites_ports, past_sites, interval_ports, tested_ports, past_tested, modes_ports, past_modes}
+use Rattle.av_kinds.specs.inner.Interfaces.{PortCounts, ports_by, bounds_by, ports_in, past, site_ports, past_site, sites_ports, past_sites, window_ports, tested_ports, past_tested, modes_ports, past_modes}
 use Rattle.av_kinds.specs.inner.Kinds.{counts, lane_built, no_ports, lanes_inputs, lanes_outputs, lanes_wires, kind_by}
 use Rattle.av_kinds.specs.inner.Modules.{kinds_by, IsSmallKind}
 use Rattle.av_kinds.proofs.PortNames.{past_lanes}
 use Rattle.av_kinds.proofs.KindNames.{counter_ports, wires_end, IsFewKind}
-use Rattle.av_kinds.proofs.InterfaceSteps.{by_many, intervals_many}
+use Rattle.av_kinds.proofs.InterfaceSteps.{by_many, windows_many}
 use Rattle.av_kinds.proofs.Placing.{gates_many}
 
 abbrev total : PortCounts → ℕ
@@ -30,7 +30,7 @@ site_total at site = by_inlet site.inlet
     w = site.width
 
     n : ℕ
-    n = site.links
+    n = site.selections
 
     by_inlet : (i : Inlet) → total (past at i n) ≡ total at + length (ports_in at i w n)
     by_inlet Inputs = omega (arith, length-append (ports_by input_name w at.inputs (suc n)) (bounds_by at.bounds n), by_many input_name w at.inputs (suc n), by_many bound_name counter_width at.bounds n)
@@ -43,7 +43,7 @@ sites_total at (s ∷ sites) = omega (arith, site_total at s, sites_total (past_
 
 tested_total : (at : PortCounts) (mode : ModeShape) → total (past_tested at mode) ≡ total at + length (tested_ports at mode)
 tested_total at mode =
-    omega (arith, sites_total at mode.sites, intervals_many (past_sites at mode.sites).bounds mode.intervals, length-append (sites_ports at mode.sites) (interval_ports (past_sites at mode.sites).bounds mode.intervals))
+    omega (arith, sites_total at mode.sites, windows_many (past_sites at mode.sites).bounds mode.windows, length-append (sites_ports at mode.sites) (window_ports (past_sites at mode.sites).bounds mode.windows))
 
 modes_total : (at : PortCounts) (modes : List ModeShape) → total (past_modes at modes) ≡ total at + length (modes_ports at modes)
 modes_total at [] = omega arith

@@ -17,7 +17,7 @@ use Rattle.av_net.specs.Meaning.{Widths, operand_width, EachOperand}
 use Rattle.av_net.specs.Designs.{HasBits}
 use Rattle.av_net.specs.Sound.{SuitsWidth, symbol_width, IsFitting, IsOrder, ComparesByOrder}
 use Rattle.av_flat.specs.Trees.{Tree, reference, constant, binary, choice, pick}
-use Rattle.av_kinds.specs.declared.gates.Gate.{Gate}
+use Rattle.av_kinds.specs.declared.gates.LaneGate.{LaneGate}
 use Rattle.av_kinds.specs.Programs.{site_count, FitsTree}
 use Rattle.av_kinds.specs.Names.{Naming}
 use Rattle.av_kinds.specs.Tops.{one_bit}
@@ -45,12 +45,12 @@ pub record Fine (K : Known) (widths : Widths) (name : Naming) (n w : ℕ) (opera
   pub order : ComparesByOrder operation
   pub bits : HasBits operation
 
-abbrev pub FineGates : Known → Widths → Naming → ℕ → List Gate → Type 0
+abbrev pub FineGates : Known → Widths → Naming → ℕ → List LaneGate → Type 0
 FineGates K widths name n [] = Unit {0}
 FineGates K widths name n (g ∷ gates) = Fine K widths name n g.width.bits g.operation × FineGates K widths name (n + 1) gates
 
 -- each wire has its width
-abbrev pub Sized : Widths → Naming → ℕ → List Gate → Type 0
+abbrev pub Sized : Widths → Naming → ℕ → List LaneGate → Type 0
 Sized widths name n [] = Unit {0}
 Sized widths name n (g ∷ gates) = (widths (name n) ≡ g.width.bits) × Sized widths name (n + 1) gates
 
@@ -64,15 +64,15 @@ pub record FineNamed (K : Known) (widths : Widths) (name : Naming) (n w : ℕ) (
 
 -- ---- lists of wires
 
-pub gates_append : (K : Known) (widths : Widths) (name : Naming) (n m : ℕ) (gates more : List Gate) → n + length gates ≡ m → FineGates K widths name n gates → FineGates K widths name m more → FineGates K widths name n (gates ++ more)
+pub gates_append : (K : Known) (widths : Widths) (name : Naming) (n m : ℕ) (gates more : List LaneGate) → n + length gates ≡ m → FineGates K widths name n gates → FineGates K widths name m more → FineGates K widths name n (gates ++ more)
 gates_append K widths name n m [] more e h k = let f : m ≡ n = omega arith in subst (λ i. FineGates K widths name i more) f k
 gates_append K widths name n m (g ∷ gates) more e h k = (h.0, gates_append K widths name (n + 1) m gates more (omega arith) h.1 k)
 
-pub sized_front : (widths : Widths) (name : Naming) (n : ℕ) (gates more : List Gate) → Sized widths name n (gates ++ more) → Sized widths name n gates
+pub sized_front : (widths : Widths) (name : Naming) (n : ℕ) (gates more : List LaneGate) → Sized widths name n (gates ++ more) → Sized widths name n gates
 sized_front widths name n [] more h = tt
 sized_front widths name n (g ∷ gates) more h = (h.0, sized_front widths name (n + 1) gates more h.1)
 
-pub sized_back : (widths : Widths) (name : Naming) (n m : ℕ) (gates more : List Gate) → n + length gates ≡ m → Sized widths name n (gates ++ more) → Sized widths name m more
+pub sized_back : (widths : Widths) (name : Naming) (n m : ℕ) (gates more : List LaneGate) → n + length gates ≡ m → Sized widths name n (gates ++ more) → Sized widths name m more
 sized_back widths name n m [] more e h = let f : n ≡ m = omega arith in subst (λ i. Sized widths name i more) f h
 sized_back widths name n m (g ∷ gates) more e h = sized_back widths name (n + 1) m gates more (omega arith) h.1
 
@@ -86,7 +86,7 @@ later K widths name n m w a le h = record { known = known_later K name n m a le 
 
 -- ---- a wire for an operation
 
-last_fine : (K : Known) (widths : Widths) (name : Naming) (n : ℕ) (w : Width) (gates : List Gate) (root : Operation) → FineBuilt K widths name n w.bits (built gates root) → Sized widths name n (gates ++ gate w root ∷ [])
+last_fine : (K : Known) (widths : Widths) (name : Naming) (n : ℕ) (w : Width) (gates : List LaneGate) (root : Operation) → FineBuilt K widths name n w.bits (built gates root) → Sized widths name n (gates ++ gate w root ∷ [])
     → FineNamed K widths name n w.bits (record { gates = gates ++ gate w root ∷ []; operand = Name (name (n + length gates)) })
 last_fine K widths name n w gates root h sized =
     let m = n + length gates in
@@ -96,7 +96,7 @@ last_fine K widths name n w gates root h sized =
       operand = record { known = inr (m, omega (arith, length-append gates (gate w root ∷ [])), refl); width = size; fits = tt };
     }
 
-pub named_fine : (K : Known) (widths : Widths) (name : Naming) (n : ℕ) (w : Width) (gates : List Gate) (root : Operation) → FineBuilt K widths name n w.bits (built gates root) → Sized widths name n (named_by name n w gates root).gates
+pub named_fine : (K : Known) (widths : Widths) (name : Naming) (n : ℕ) (w : Width) (gates : List LaneGate) (root : Operation) → FineBuilt K widths name n w.bits (built gates root) → Sized widths name n (named_by name n w gates root).gates
     → FineNamed K widths name n w.bits (named_by name n w gates root)
 named_fine K widths name n w gates (Plain a) h sized = record { gates = h.gates; operand = record { known = h.root.known; width = h.root.suits; fits = h.root.fits } }
 named_fine K widths name n w gates (Binary a s b) h sized = last_fine K widths name n w gates (Binary a s b) h sized
@@ -105,7 +105,7 @@ named_fine K widths name n w gates (Choose c a b) h sized = last_fine K widths n
 named_fine K widths name n w gates (Part x high low) h sized = last_fine K widths name n w gates (Part x high low) h sized
 named_fine K widths name n w gates (Widen x by) h sized = last_fine K widths name n w gates (Widen x by) h sized
 
-pub named_sized : (widths : Widths) (name : Naming) (n : ℕ) (w : Width) (gates : List Gate) (root : Operation) → Sized widths name n (named_by name n w gates root).gates → Sized widths name n gates
+pub named_sized : (widths : Widths) (name : Naming) (n : ℕ) (w : Width) (gates : List LaneGate) (root : Operation) → Sized widths name n (named_by name n w gates root).gates → Sized widths name n gates
 named_sized widths name n w gates (Plain a) h = h
 named_sized widths name n w gates (Binary a s b) h = sized_front widths name n gates (gate w (Binary a s b) ∷ []) h
 named_sized widths name n w gates (Signed a s b) h = sized_front widths name n gates (gate w (Signed a s b) ∷ []) h
@@ -128,7 +128,7 @@ choose_fine : (K : Known) (widths : Widths) (name : Naming) (n w : ℕ) (c a b :
 choose_fine K widths name n w c a b hc ha hb = record { known = (hc.known, ha.known, hb.known); suits = (hc.width, ha.width, hb.width); fits = (hc.fits, ha.fits, hb.fits); order = tt; bits = tt }
 
 -- a test on a wire, and the choice by it
-chosen_fine : (K : Known) (widths : Widths) (name : Naming) (n w : ℕ) (gates : List Gate) (test : Operation) (a b : Operand) → FineGates K widths name n gates → Fine K widths name (n + length gates) 1 test
+chosen_fine : (K : Known) (widths : Widths) (name : Naming) (n w : ℕ) (gates : List LaneGate) (test : Operation) (a b : Operand) → FineGates K widths name n gates → Fine K widths name (n + length gates) 1 test
     → FineOperand K widths name (n + length gates) w a → FineOperand K widths name (n + length gates) w b → Sized widths name n (chosen_by name n gates test a b).gates → FineBuilt K widths name n w (chosen_by name n gates test a b)
 chosen_fine K widths name n w gates test a b g t ha hb sized =
     let m = n + length gates in

@@ -16,7 +16,7 @@ use Rattle.av_kinds.specs.declared.choice.Guard.{Guard}
 use Rattle.av_kinds.specs.declared.choice.Guard.TheVariants.{UpTo, Within}
 use Rattle.av_kinds.specs.declared.choice.Arm.{Arm}
 use Rattle.av_kinds.specs.declared.choice.Tap.{Tap}
-use Rattle.av_kinds.specs.declared.gates.Gate.{Gate}
+use Rattle.av_kinds.specs.declared.gates.LaneGate.{LaneGate}
 use Rattle.av_kinds.specs.Programs.{FitsTree}
 use Rattle.av_kinds.specs.Names.{Naming}
 use Rattle.av_kinds.specs.Tops.{one_bit}
@@ -135,7 +135,7 @@ fit_fine K widths name w counter count n tap fine = by_case (nat_eq tap.width.bi
         let h = named_fine K widths name n tap.width b.gates b.root (tap_fine K widths name counter count n tap fine (named_sized widths name n tap.width b.gates b.root sized)) sized in
         record { gates = h.gates; root = fitting_fine K widths name (n + length a.gates) tap.width.bits w.bits a.operand (tap_named name n counter tap.width tap.otherwise tap.arms fine.is_named) w.least e h.operand }
 
-pub record FineTaken (K : Known) (widths : Widths) (name : Naming) (w : Width) (n m : ℕ) (gates : List Gate) (operands : List Operand) : Type 0 where
+pub record FineTaken (K : Known) (widths : Widths) (name : Naming) (w : Width) (n m : ℕ) (gates : List LaneGate) (operands : List Operand) : Type 0 where
   pub gates_fine : FineGates K widths name n gates
   pub operands_fine : (s : ℕ) → FineOperand K widths name m w.bits (operand_at w operands s)
 
@@ -242,7 +242,7 @@ pub record FineLane (K : Known) (widths : Widths) (name : Naming) (w : ℕ) (lan
   pub modes : AllByRecursion (FineGuarded K widths name w) lane.modes
   pub otherwise : FineDatapath K widths name w lane.otherwise
 
--- The wires of a lane obey the rules, whatever names its bounds, links and ports have.
+-- The wires of a lane obey the rules, whatever names its bounds, selections and ports have.
 pub lane_fine : (K : Known) (widths : Widths) (name : Naming) (w : Width) (counter : Operand) (lane : LaneDatapaths) → FineAt K widths name 12 counter → FineLane K widths name w.bits lane
     → Sized widths name 0 (datapaths_built name w counter 0 lane).gates → FineBuilt K widths name 0 w.bits (datapaths_built name w counter 0 lane)
 lane_fine K widths name w counter lane count fine sized = modes_fine K widths name w counter count 0 lane.otherwise lane.modes fine.otherwise fine.modes sized

@@ -14,7 +14,7 @@ use Rattle.av_kinds.specs.Names.{Naming, input_name, tap_name, bound_name, pipe_
 use Rattle.av_kinds.specs.Counters.{counter_width}
 use Rattle.av_kinds.specs.Tops.{port}
 use Rattle.av_kinds.specs.inner.Shapes.{ModeShape, LaneShape, IsInletShape, IsSiteShape, IsModeShape, IsLaneShape}
-use Rattle.av_kinds.specs.inner.Interfaces.{PortCounts, ports_by, bounds_by, options_by, last_by, ports_in, past_site, site_ports, tap_in, tap_of, sites_ports, past_sites, taps_of, guards_by, interval_ports, tested_ports, past_tested, modes_ports, tested_of, last_of, datapaths_of}
+use Rattle.av_kinds.specs.inner.Interfaces.{PortCounts, ports_by, bounds_by, options_by, last_by, ports_in, past_site, site_ports, tap_in, tap_of, sites_ports, past_sites, taps_of, guards_by, window_ports, tested_ports, past_tested, modes_ports, tested_of, last_of, datapaths_of}
 use Rattle.av_kinds.proofs.Wide.{last_named}
 use Rattle.av_kinds.proofs.Fine.{Known}
 use Rattle.av_kinds.proofs.FineCells.{FineAt, FineGuard, FineArm, FineTap, FineDatapath, FineGuarded, FineLane}
@@ -55,9 +55,9 @@ module _ (K : Known) (widths : Widths) (name : Naming) where
   site_fine : (all : List LaneShape) (k : ℕ) → PipesKnown all k → (at : PortCounts) (site : SiteShape) → IsSiteShape all k site → AllByRecursion P (site_ports at site) → FineTap K widths name (tap_of at site)
   site_fine all k pipes at site = by_inlet site.inlet
     where
-      by_inlet : (i : Inlet) → IsInletShape all k site.width i → AllByRecursion P (ports_in at i site.width site.links) → FineTap K widths name (tap_in at i site.width site.links)
-      by_inlet Inputs is ports = words_fine input_name site.width at.inputs at.bounds site.links ports
-      by_inlet Taps is ports = words_fine tap_name site.width at.taps at.bounds site.links ports
+      by_inlet : (i : Inlet) → IsInletShape all k site.width i → AllByRecursion P (ports_in at i site.width site.selections) → FineTap K widths name (tap_in at i site.width site.selections)
+      by_inlet Inputs is ports = words_fine input_name site.width at.inputs at.bounds site.selections ports
+      by_inlet Taps is ports = words_fine tap_name site.width at.taps at.bounds site.selections ports
       by_inlet (Pipe h) is ports =
           let own : P (port is.0.width (pipe_name h)) = pipes h is.0 is.1 is.3 in
           record { arms = tt; otherwise = record { known = inl own.known; width = own.wide ∙ ap (λ (w : Width). w.bits) is.2; fits = tt }; is_named = tt }
@@ -71,7 +71,7 @@ module _ (K : Known) (widths : Widths) (name : Naming) where
 
   -- ---- a lane
 
-  guards_fine : (b n : ℕ) → AllByRecursion P (interval_ports b n) → AllByRecursion (FineGuard K widths name) (guards_by b n)
+  guards_fine : (b n : ℕ) → AllByRecursion P (window_ports b n) → AllByRecursion (FineGuard K widths name) (guards_by b n)
   guards_fine b zero ports = tt
   guards_fine b (suc n) ports = ((port_fine (port counter_width (bound_name b)) ports.0, port_fine (port counter_width (bound_name (b + 1))) ports.1.0), guards_fine (b + 2) n ports.1.1)
 
@@ -79,10 +79,10 @@ module _ (K : Known) (widths : Widths) (name : Naming) where
   tested_fine all k w pipes at [] are ports = tt
   tested_fine all k w pipes at (t ∷ []) are ports = tt
   tested_fine all k w pipes at (t ∷ u ∷ modes) are ports =
-      let bounds = interval_ports (past_sites at t.sites).bounds t.intervals in
+      let bounds = window_ports (past_sites at t.sites).bounds t.windows in
       let here = each_first P (tested_ports at t) (modes_ports (past_tested at t) (u ∷ modes)) ports in (
         record {
-          guards = guards_fine (past_sites at t.sites).bounds t.intervals (each_second P (sites_ports at t.sites) bounds here);
+          guards = guards_fine (past_sites at t.sites).bounds t.windows (each_second P (sites_ports at t.sites) bounds here);
           datapath = record { taps = sites_fine all k pipes at t.sites are.0.sites (each_first P (sites_ports at t.sites) bounds here); tree = are.0.fits };
         },
         tested_fine all k w pipes (past_tested at t) (u ∷ modes) are.1 (each_second P (tested_ports at t) (modes_ports (past_tested at t) (u ∷ modes)) ports),

@@ -19,7 +19,7 @@ use Rattle.av_net.specs.Flat as flat
 use Rattle.av_net.specs.Flat.{part_name, part_port, part_drive, input_drives, part_drives, kind_ports, kind_of, instance_wires, instance_drives}
 use Rattle.av_kinds.specs.declared.counter.Counter.{Counter}
 use Rattle.av_kinds.specs.declared.program.CellLanes.{CellLanes}
-use Rattle.av_kinds.specs.declared.program.Source.{Source}
+use Rattle.av_kinds.specs.declared.program.WordSource.{WordSource}
 use Rattle.av_kinds.specs.Programs.{Lane, Program, lanes_of, IsProgram}
 use Rattle.av_kinds.specs.Names.{Labels, output_name, instance_name, kind_counter, labels}
 use Rattle.av_kinds.specs.Counters.{counter_width, counter_name}
@@ -142,7 +142,7 @@ module _ (counter : Counter) (program : Program) (is : IsProgram program) (shape
   pub record HasCases (P : Drive → Type 0) (p : ℕ) (own : CellLanes) (k : ℕ) (h : IsPlaced p own k) : Type 0 where
     pub count : counts h.shape ≡ true → P (record { target = part_name (instance_name p) kind_counter; operation = Plain (Name own_name) })
     pub literal : (x : List ℕ) (w : Width) (n : ℕ) → P (record { target = part_name (instance_name p) x; operation = Plain (Literal w n) })
-    pub source : (x : List ℕ) (w : Width) (s : Source) → IsGiven program is p own h.is_cell h.within.low s → P (record { target = part_name (instance_name p) x; operation = Plain (operand_of N w s) })
+    pub source : (x : List ℕ) (w : Width) (s : WordSource) → IsGiven program is p own h.is_cell h.within.low s → P (record { target = part_name (instance_name p) x; operation = Plain (operand_of N w s) })
     pub inner : (d : Drive) → Contains (lanes_drives (Name kind_counter) no_ports 0 0 h.shape) d → P (part_drive (instance_name p) d)
     pub output : (x : List ℕ) (q : ℕ) (lane : Lane) → slice_get program.lanes q ≡ Some lane → lane.home ≡ p → P (record { target = N.value q; operation = Plain (Name (part_name (instance_name p) x)) })
 

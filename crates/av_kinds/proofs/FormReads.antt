@@ -17,8 +17,8 @@ use Rattle.av_net.specs.Flat.{part_name, part_operand, part_operation}
 use Rattle.av_kinds.specs.declared.counter.Counter.{Counter}
 use Rattle.av_kinds.specs.declared.counter.Counter.TheVariants.{Cycles, Phases}
 use Rattle.av_kinds.specs.declared.program.CellLanes.{CellLanes}
-use Rattle.av_kinds.specs.declared.program.Source.{Source}
-use Rattle.av_kinds.specs.declared.program.Source.TheVariants.{Word, Input, Line}
+use Rattle.av_kinds.specs.declared.program.WordSource.{WordSource}
+use Rattle.av_kinds.specs.declared.program.WordSource.TheVariants.{Word, Input, Line}
 use Rattle.av_kinds.specs.Programs.{Lane, Program, IsProgram}
 use Rattle.av_kinds.specs.Names.{Labels, input_name, output_name, instance_name, kind_counter, line_name, labels}
 use Rattle.av_kinds.specs.Counters.{counter_name}
@@ -99,7 +99,7 @@ module _ (counter : Counter) (program : Program) (is : IsProgram program) (shape
 
   -- what wires of each cell may read
   module _ (May : ℕ → Operand → Type 0) (literal : (p : ℕ) (w : Width) (n : ℕ) → May p (Literal w n)) (part : (p : ℕ) (x : List ℕ) → p < 10 ^ 64 → May p (Name (part_name (instance_name p) x))) (count : (p : ℕ) → May p (Name own_name))
-      (source : (p : ℕ) (own : CellLanes) (k : ℕ) (h : Placed p own k) (w : Width) (s : Source) → IsGiven program is p own h.is_cell h.within.low s → May p (operand_of N w s)) where
+      (source : (p : ℕ) (own : CellLanes) (k : ℕ) (h : Placed p own k) (w : Width) (s : WordSource) → IsGiven program is p own h.is_cell h.within.low s → May p (operand_of N w s)) where
     abbrev Reads : Drive → Type 0
     Reads d = (p : ℕ) → p < length program.cells → IsWire p d.target → All (May p) (operands_of d.operation)
 
@@ -144,7 +144,7 @@ module _ (counter : Counter) (program : Program) (is : IsProgram program) (shape
               output = λ x q lane there home. of_cell p (N.value q) (Plain (Name (part_name (instance_name p) x))) small (own_wire p q lane there home) (one p (Name (part_name (instance_name p) x)) (part p x small));
             }
 
-  source_named : (p : ℕ) (own : CellLanes) (k : ℕ) (h : Placed p own k) (w : Width) (s : Source) → IsGiven program is p own h.is_cell h.within.low s → MayName own_name program p (operand_of N w s)
+  source_named : (p : ℕ) (own : CellLanes) (k : ℕ) (h : Placed p own k) (w : Width) (s : WordSource) → IsGiven program is p own h.is_cell h.within.low s → MayName own_name program p (operand_of N w s)
   source_named p own k h w (Word n) given = tt
   source_named p own k h w (Input n) given = inr (inl (n, refl, given.takes))
   source_named p own k h w (Line q zero) given = absurd (omega (arith, given.is_source.4))
@@ -155,7 +155,7 @@ module _ (counter : Counter) (program : Program) (is : IsProgram program) (shape
 
   -- ---- what registers of other cells are read
 
-  source_linked : (p : ℕ) (own : CellLanes) (k : ℕ) (h : Placed p own k) (w : Width) (s : Source) → IsGiven program is p own h.is_cell h.within.low s → MayLink program p (operand_of N w s)
+  source_linked : (p : ℕ) (own : CellLanes) (k : ℕ) (h : Placed p own k) (w : Width) (s : WordSource) → IsGiven program is p own h.is_cell h.within.low s → MayLink program p (operand_of N w s)
   source_linked p own k h w (Word n) given = tt
   source_linked p own k h w (Input n) given = λ q lt register apart.
       absurd (sorts_apart (input_name n) 105 114 (one_number 105 n (omega (arith, below_length program.inputs n given.width given.is_source, is.inputs_few))) (register_sort q (input_name n) (small_cell q lt) register) (λ e. omega (arith, e)))

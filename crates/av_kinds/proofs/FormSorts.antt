@@ -21,8 +21,8 @@ use Rattle.av_net.specs.Flat.{part_name, part_operation, part_drive, input_drive
 use Rattle.av_kinds.specs.declared.counter.Counter.{Counter}
 use Rattle.av_kinds.specs.declared.counter.Counter.TheVariants.{Cycles, Phases}
 use Rattle.av_kinds.specs.declared.program.CellLanes.{CellLanes}
-use Rattle.av_kinds.specs.declared.program.Source.{Source}
-use Rattle.av_kinds.specs.declared.program.Source.TheVariants.{Word, Input, Line}
+use Rattle.av_kinds.specs.declared.program.WordSource.{WordSource}
+use Rattle.av_kinds.specs.declared.program.WordSource.TheVariants.{Word, Input, Line}
 use Rattle.av_kinds.specs.Programs.{Program, lanes_of, IsProgram}
 use Rattle.av_kinds.specs.Names.{Labels, input_name, instance_name, kind_counter, labels}
 use Rattle.av_kinds.specs.Counters.{counter_width, counter_name}
@@ -140,7 +140,7 @@ module _ (counter : Counter) (program : Program) (is : IsProgram program) (shape
   no_part : (p : ℕ) (x : List ℕ) → p < 10 ^ 64 → part_name (instance_name p) x ≡ own_name → ⊥
   no_part p x small e = (counter_apart counter).part (sym (ap sort e) ∙ part_sort p x small)
 
-  no_source : (p : ℕ) (own : CellLanes) (k : ℕ) (h : Placed p own k) (w : Width) (s : Source) → IsGiven program is p own h.is_cell h.within.low s → Plain (operand_of N w s) ≡ Plain (Name own_name) → ⊥
+  no_source : (p : ℕ) (own : CellLanes) (k : ℕ) (h : Placed p own k) (w : Width) (s : WordSource) → IsGiven program is p own h.is_cell h.within.low s → Plain (operand_of N w s) ≡ Plain (Name own_name) → ⊥
   no_source p own k h w (Word n) given e = no_literal w n own_name e
   no_source p own k h w (Input n) given e =
       (counter_apart counter).input (sym (ap sort (plain_name (input_name n) own_name e)) ∙ one_number 105 n (omega (arith, below_length program.inputs n given.width given.is_source, is.inputs_few)))

@@ -6,10 +6,10 @@ use Rattle.std.proofs.lemmas.List.{append-nil, length-map, length-drop}
 use Rattle.std.proofs.lemmas.Option.{slice_get_read}
 use Rattle.av_base.proofs.Lists.{some_is, each_at, next_item}
 use Rattle.av_net.specs.declared.operation.Operand.{Operand}
-use Rattle.av_kinds.specs.declared.program.Interval.{Interval}
-use Rattle.av_kinds.specs.declared.program.Link.{Link}
-use Rattle.av_kinds.specs.declared.program.Site.{Site}
-use Rattle.av_kinds.specs.declared.program.Source.{Source}
+use Rattle.av_kinds.specs.declared.program.Window.{Window}
+use Rattle.av_kinds.specs.declared.program.Selection.{Selection}
+use Rattle.av_kinds.specs.declared.program.ProgramSite.{ProgramSite}
+use Rattle.av_kinds.specs.declared.program.WordSource.{WordSource}
 use Rattle.av_kinds.specs.declared.shape.SiteShape.{SiteShape}
 use Rattle.av_net.specs.declared.plan.Instance.{Instance}
 use Rattle.av_kinds.specs.declared.program.CellLanes.{CellLanes}
@@ -18,17 +18,17 @@ use Rattle.av_kinds.specs.Written.{ModeMade, LaneMade, mode_of, lane_of}
 use Rattle.av_kinds.specs.Names.{Labels, labels, instance_name}
 use Rattle.av_kinds.specs.inner.Counts.{bound}
 use Rattle.av_kinds.specs.inner.Shapes.{ModeShape, ModeShapeMade, LaneShapeMade, mode_shape_of, lane_shape_of, SuitsMode, SuitModes, SuitsLane, SuitLanes}
-use Rattle.av_kinds.specs.inner.Instances.{words_for, bounds_for, site_operands, sites_operands, intervals_for, mode_operands, modes_operands, lanes_operands, outputs_from, cell_operands, instance_by}
+use Rattle.av_kinds.specs.inner.Instances.{words_for, bounds_for, site_operands, sites_operands, windows_for, mode_operands, modes_operands, lanes_operands, outputs_from, cell_operands, instance_by}
 use Rattle.av_kinds.specs.inner.Reads.{IsThere, SiteThere, ModeThere, LaneThere}
 use Rattle.av_kinds.proofs.Placing.{one_less, one_more, some_less, read_mapped}
 use Rattle.av_kinds.proofs.ShapeSuits.{mode_there}
 use Rattle.av_kinds.proofs.ShapeMade.{suit_at}
 use Rattle.av_kinds.proofs.TopInstances.{suit_many}
 
-abbrev pub source_of : Link → Source
+abbrev pub source_of : Selection → WordSource
 source_of l = l.source
 
-abbrev pub last_of : Link → ℕ
+abbrev pub last_of : Selection → ℕ
 last_of l = l.last
 
 -- all are still to come, from the start
@@ -37,87 +37,87 @@ all_to_come F old n count at = let e : n ≡ count = omega (arith, at) in ap (λ
 
 -- ---- a place
 
-pub source_there : (count k : ℕ) (links : List Link) (otherwise : Source) → AllByRecursion (λ (l : Link). IsThere count l.source) links → IsThere count otherwise → IsThere count (get_or (map source_of links) k otherwise)
+pub source_there : (count k : ℕ) (selections : List Selection) (otherwise : WordSource) → AllByRecursion (λ (l : Selection). IsThere count l.source) selections → IsThere count otherwise → IsThere count (get_or (map source_of selections) k otherwise)
 source_there count k [] otherwise each last = last
-source_there count zero (l ∷ links) otherwise each last = each.0
-source_there count (suc k) (l ∷ links) otherwise each last = source_there count k links otherwise each.1 last
+source_there count zero (l ∷ selections) otherwise each last = each.0
+source_there count (suc k) (l ∷ selections) otherwise each last = source_there count k selections otherwise each.1 last
 
-words_split : (f : Source → Operand) (k n : ℕ) (links : List Link) (otherwise : Source) → words_for f (suc n) (drop k links) otherwise ≡ f (get_or (map source_of links) k otherwise) ∷ words_for f n (drop (suc k) links) otherwise
+words_split : (f : WordSource → Operand) (k n : ℕ) (selections : List Selection) (otherwise : WordSource) → words_for f (suc n) (drop k selections) otherwise ≡ f (get_or (map source_of selections) k otherwise) ∷ words_for f n (drop (suc k) selections) otherwise
 words_split f zero n [] otherwise = refl
 words_split f (suc k) n [] otherwise = refl
-words_split f zero n (l ∷ links) otherwise = refl
-words_split f (suc k) n (l ∷ links) otherwise = words_split f k n links otherwise
+words_split f zero n (l ∷ selections) otherwise = refl
+words_split f (suc k) n (l ∷ selections) otherwise = words_split f k n selections otherwise
 
 -- its words, with those from the k-th on still to come
-abbrev pub AreWordsFrom : (Source → Operand) → ℕ → List Link → Source → ℕ → List Operand → List Operand → Type 0
-AreWordsFrom f count links otherwise k operands whole = (n : ℕ) → k + n ≡ count → operands ++ words_for f n (drop k links) otherwise ≡ whole
+abbrev pub AreWordsFrom : (WordSource → Operand) → ℕ → List Selection → WordSource → ℕ → List Operand → List Operand → Type 0
+AreWordsFrom f count selections otherwise k operands whole = (n : ℕ) → k + n ≡ count → operands ++ words_for f n (drop k selections) otherwise ≡ whole
 
-pub word_put : (f : Source → Operand) (count : ℕ) (links : List Link) (otherwise : Source) (k : ℕ) (operands next whole : List Operand) (source : Source) (a : Operand) → AreWordsFrom f count links otherwise k operands whole
-    → source ≡ get_or (map source_of links) k otherwise → a ≡ f source → next ≡ operands ++ a ∷ [] → AreWordsFrom f count links otherwise (k + 1) next whole
-word_put f count links otherwise k operands next whole source a h from is put = λ n at.
-    one_less whole operands next a (words_for f (suc n) (drop k links) otherwise) (words_for f n (drop (k + 1) links) otherwise) (h (suc n) (omega (arith, at))) put
-    (words_split f k n links otherwise ∙ ap (λ s. f s ∷ words_for f n (drop (suc k) links) otherwise) (sym from) ∙ ap (λ x. x ∷ words_for f n (drop (suc k) links) otherwise) (sym is)
-    ∙ ap (λ i. a ∷ words_for f n (drop i links) otherwise) (one_more k))
+pub word_put : (f : WordSource → Operand) (count : ℕ) (selections : List Selection) (otherwise : WordSource) (k : ℕ) (operands next whole : List Operand) (source : WordSource) (a : Operand) → AreWordsFrom f count selections otherwise k operands whole
+    → source ≡ get_or (map source_of selections) k otherwise → a ≡ f source → next ≡ operands ++ a ∷ [] → AreWordsFrom f count selections otherwise (k + 1) next whole
+word_put f count selections otherwise k operands next whole source a h from is put = λ n at.
+    one_less whole operands next a (words_for f (suc n) (drop k selections) otherwise) (words_for f n (drop (k + 1) selections) otherwise) (h (suc n) (omega (arith, at))) put
+    (words_split f k n selections otherwise ∙ ap (λ s. f s ∷ words_for f n (drop (suc k) selections) otherwise) (sym from) ∙ ap (λ x. x ∷ words_for f n (drop (suc k) selections) otherwise) (sym is)
+    ∙ ap (λ i. a ∷ words_for f n (drop i selections) otherwise) (one_more k))
 
-pub words_put : (f : Source → Operand) (count : ℕ) (links : List Link) (otherwise : Source) (k : ℕ) (operands next whole : List Operand) (a : Operand) → AreWordsFrom f count links otherwise k operands whole
+pub words_put : (f : WordSource → Operand) (count : ℕ) (selections : List Selection) (otherwise : WordSource) (k : ℕ) (operands next whole : List Operand) (a : Operand) → AreWordsFrom f count selections otherwise k operands whole
     → k ≡ count → a ≡ f otherwise → next ≡ operands ++ a ∷ [] → next ≡ whole
-words_put f count links otherwise k operands next whole a h at is put = put ∙ ap (λ x. operands ++ x ∷ []) is ∙ h 0 (omega (arith, at))
+words_put f count selections otherwise k operands next whole a h at is put = put ∙ ap (λ x. operands ++ x ∷ []) is ∙ h 0 (omega (arith, at))
 
-bounds_split : (k n : ℕ) (links : List Link) → bounds_for (suc n) (drop k links) ≡ bound (get_or (map last_of links) k 0) ∷ bounds_for n (drop (suc k) links)
+bounds_split : (k n : ℕ) (selections : List Selection) → bounds_for (suc n) (drop k selections) ≡ bound (get_or (map last_of selections) k 0) ∷ bounds_for n (drop (suc k) selections)
 bounds_split zero n [] = refl
 bounds_split (suc k) n [] = refl
-bounds_split zero n (l ∷ links) = refl
-bounds_split (suc k) n (l ∷ links) = bounds_split k n links
+bounds_split zero n (l ∷ selections) = refl
+bounds_split (suc k) n (l ∷ selections) = bounds_split k n selections
 
-abbrev pub AreBoundsFrom : ℕ → List Link → ℕ → List Operand → List Operand → Type 0
-AreBoundsFrom count links k operands whole = (n : ℕ) → k + n ≡ count → operands ++ bounds_for n (drop k links) ≡ whole
+abbrev pub AreBoundsFrom : ℕ → List Selection → ℕ → List Operand → List Operand → Type 0
+AreBoundsFrom count selections k operands whole = (n : ℕ) → k + n ≡ count → operands ++ bounds_for n (drop k selections) ≡ whole
 
-pub bound_put : (count : ℕ) (links : List Link) (k : ℕ) (operands next whole : List Operand) (last : ℕ) (a : Operand) → AreBoundsFrom count links k operands whole → last ≡ get_or (map last_of links) k 0 → a ≡ bound last → next ≡ operands ++ a ∷ []
-    → AreBoundsFrom count links (k + 1) next whole
-bound_put count links k operands next whole last a h from is put = λ n at.
-    one_less whole operands next a (bounds_for (suc n) (drop k links)) (bounds_for n (drop (k + 1) links)) (h (suc n) (omega (arith, at))) put
-    (bounds_split k n links ∙ ap (λ i. bound i ∷ bounds_for n (drop (suc k) links)) (sym from) ∙ ap (λ x. x ∷ bounds_for n (drop (suc k) links)) (sym is) ∙ ap (λ i. a ∷ bounds_for n (drop i links)) (one_more k))
+pub bound_put : (count : ℕ) (selections : List Selection) (k : ℕ) (operands next whole : List Operand) (last : ℕ) (a : Operand) → AreBoundsFrom count selections k operands whole → last ≡ get_or (map last_of selections) k 0 → a ≡ bound last → next ≡ operands ++ a ∷ []
+    → AreBoundsFrom count selections (k + 1) next whole
+bound_put count selections k operands next whole last a h from is put = λ n at.
+    one_less whole operands next a (bounds_for (suc n) (drop k selections)) (bounds_for n (drop (k + 1) selections)) (h (suc n) (omega (arith, at))) put
+    (bounds_split k n selections ∙ ap (λ i. bound i ∷ bounds_for n (drop (suc k) selections)) (sym from) ∙ ap (λ x. x ∷ bounds_for n (drop (suc k) selections)) (sym is) ∙ ap (λ i. a ∷ bounds_for n (drop i selections)) (one_more k))
 
-pub bounds_put : (count : ℕ) (links : List Link) (k : ℕ) (operands whole : List Operand) → AreBoundsFrom count links k operands whole → k ≡ count → operands ≡ whole
-bounds_put count links k operands whole h at = sym (append-nil operands) ∙ h 0 (omega (arith, at))
+pub bounds_put : (count : ℕ) (selections : List Selection) (k : ℕ) (operands whole : List Operand) → AreBoundsFrom count selections k operands whole → k ≡ count → operands ≡ whole
+bounds_put count selections k operands whole h at = sym (append-nil operands) ∙ h 0 (omega (arith, at))
 
 -- ---- the places of a mode
 
-pub site_put : (names : Labels) (shapes : List SiteShape) (sites : List Site) (k : ℕ) (shape : SiteShape) (site : Site) (operands next whole : List Operand) → k < length shapes → shape ≡ get_or shapes k shape → k < length sites → site ≡ get_or sites k site
+pub site_put : (names : Labels) (shapes : List SiteShape) (sites : List ProgramSite) (k : ℕ) (shape : SiteShape) (site : ProgramSite) (operands next whole : List Operand) → k < length shapes → shape ≡ get_or shapes k shape → k < length sites → site ≡ get_or sites k site
     → operands ++ sites_operands names (drop k shapes) (drop k sites) ≡ whole → next ≡ operands ++ site_operands names shape site → next ++ sites_operands names (drop (k + 1) shapes) (drop (k + 1) sites) ≡ whole
 site_put names shapes sites k shape site operands next whole ls is lt it h put =
     some_less whole operands next (site_operands names shape site) (sites_operands names (drop k shapes) (drop k sites)) (sites_operands names (drop (k + 1) shapes) (drop (k + 1) sites)) h put
     (ap (λ xs. sites_operands names xs (drop k sites)) (next_item shapes k shape ls is) ∙ ap (sites_operands names (shape ∷ drop (k + 1) shapes)) (next_item sites k site lt it))
 
-pub site_there_at : (count : ℕ) (sites : List Site) → AllByRecursion (SiteThere count) sites → (k : ℕ) (site : Site) → k < length sites → site ≡ get_or sites k site → SiteThere count site
+pub site_there_at : (count : ℕ) (sites : List ProgramSite) → AllByRecursion (SiteThere count) sites → (k : ℕ) (site : ProgramSite) → k < length sites → site ≡ get_or sites k site → SiteThere count site
 site_there_at count sites each k site lt is = each_at (SiteThere count) sites k site each (slice_get_read sites (length sites) k site refl lt is)
 
--- ---- its intervals
+-- ---- its windows
 
-abbrev pub no_interval : Interval
-no_interval = record { first = 1; last = 0 }
+abbrev pub no_window : Window
+no_window = record { first = 1; last = 0 }
 
-intervals_split : (k n : ℕ) (intervals : List Interval)
-    → intervals_for (suc n) (drop k intervals) ≡ bound (get_or intervals k no_interval).first ∷ bound (get_or intervals k no_interval).last ∷ intervals_for n (drop (suc k) intervals)
-intervals_split zero n [] = refl
-intervals_split (suc k) n [] = refl
-intervals_split zero n (s ∷ intervals) = refl
-intervals_split (suc k) n (s ∷ intervals) = intervals_split k n intervals
+windows_split : (k n : ℕ) (windows : List Window)
+    → windows_for (suc n) (drop k windows) ≡ bound (get_or windows k no_window).first ∷ bound (get_or windows k no_window).last ∷ windows_for n (drop (suc k) windows)
+windows_split zero n [] = refl
+windows_split (suc k) n [] = refl
+windows_split zero n (s ∷ windows) = refl
+windows_split (suc k) n (s ∷ windows) = windows_split k n windows
 
-abbrev pub AreIntervalsFrom : ℕ → List Interval → ℕ → List Operand → List Operand → Type 0
-AreIntervalsFrom count intervals k operands whole = (n : ℕ) → k + n ≡ count → operands ++ intervals_for n (drop k intervals) ≡ whole
+abbrev pub AreWindowsFrom : ℕ → List Window → ℕ → List Operand → List Operand → Type 0
+AreWindowsFrom count windows k operands whole = (n : ℕ) → k + n ≡ count → operands ++ windows_for n (drop k windows) ≡ whole
 
-pub interval_put : (count : ℕ) (intervals : List Interval) (k : ℕ) (operands mid next whole : List Operand) (own : Interval) (a b : Operand) → AreIntervalsFrom count intervals k operands whole → own ≡ get_or intervals k no_interval
-    → a ≡ bound own.first → b ≡ bound own.last → mid ≡ operands ++ a ∷ [] → next ≡ mid ++ b ∷ [] → AreIntervalsFrom count intervals (k + 1) next whole
-interval_put count intervals k operands mid next whole own a b h from is_first is_last put_first put_last = λ n at.
-    some_less whole operands next (a ∷ b ∷ []) (intervals_for (suc n) (drop k intervals)) (intervals_for n (drop (k + 1) intervals)) (h (suc n) (omega (arith, at)))
+pub window_put : (count : ℕ) (windows : List Window) (k : ℕ) (operands mid next whole : List Operand) (own : Window) (a b : Operand) → AreWindowsFrom count windows k operands whole → own ≡ get_or windows k no_window
+    → a ≡ bound own.first → b ≡ bound own.last → mid ≡ operands ++ a ∷ [] → next ≡ mid ++ b ∷ [] → AreWindowsFrom count windows (k + 1) next whole
+window_put count windows k operands mid next whole own a b h from is_first is_last put_first put_last = λ n at.
+    some_less whole operands next (a ∷ b ∷ []) (windows_for (suc n) (drop k windows)) (windows_for n (drop (k + 1) windows)) (h (suc n) (omega (arith, at)))
     (put_last ∙ ap (λ xs. xs ++ b ∷ []) put_first ∙ append_assoc operands (a ∷ []) (b ∷ []))
-    (intervals_split k n intervals ∙ ap (λ (s : Interval). bound s.first ∷ bound s.last ∷ intervals_for n (drop (suc k) intervals)) (sym from)
-    ∙ ap (λ x. x ∷ bound own.last ∷ intervals_for n (drop (suc k) intervals)) (sym is_first) ∙ ap (λ x. a ∷ x ∷ intervals_for n (drop (suc k) intervals)) (sym is_last)
-    ∙ ap (λ i. a ∷ b ∷ intervals_for n (drop i intervals)) (one_more k))
+    (windows_split k n windows ∙ ap (λ (s : Window). bound s.first ∷ bound s.last ∷ windows_for n (drop (suc k) windows)) (sym from)
+    ∙ ap (λ x. x ∷ bound own.last ∷ windows_for n (drop (suc k) windows)) (sym is_first) ∙ ap (λ x. a ∷ x ∷ windows_for n (drop (suc k) windows)) (sym is_last)
+    ∙ ap (λ i. a ∷ b ∷ windows_for n (drop i windows)) (one_more k))
 
-pub intervals_put : (count : ℕ) (intervals : List Interval) (k : ℕ) (operands whole : List Operand) → AreIntervalsFrom count intervals k operands whole → k ≡ count → operands ≡ whole
-intervals_put count intervals k operands whole h at = sym (append-nil operands) ∙ h 0 (omega (arith, at))
+pub windows_put : (count : ℕ) (windows : List Window) (k : ℕ) (operands whole : List Operand) → AreWindowsFrom count windows k operands whole → k ≡ count → operands ≡ whole
+windows_put count windows k operands whole h at = sym (append-nil operands) ∙ h 0 (omega (arith, at))
 
 -- ---- the modes of a lane: the last one is not tested
 

@@ -16,7 +16,7 @@ use Rattle.av_kinds.specs.declared.shape.SiteShape.{SiteShape}
 use Rattle.av_kinds.specs.Names.{Naming, input_name, tap_name, bound_name}
 use Rattle.av_kinds.specs.Counters.{counter_width}
 use Rattle.av_kinds.specs.Tops.{port}
-use Rattle.av_kinds.specs.inner.Interfaces.{PortCounts, ports_by, bounds_by, options_by, last_by, tap_by, guards_by, interval_ports, ports_in, past, tap_in, site_ports, past_site, tap_of, tested_ports, past_tested, sites_ports, past_sites}
+use Rattle.av_kinds.specs.inner.Interfaces.{PortCounts, ports_by, bounds_by, options_by, last_by, tap_by, guards_by, window_ports, ports_in, past, tap_in, site_ports, past_site, tap_of, tested_ports, past_tested, sites_ports, past_sites}
 use Rattle.av_kinds.specs.inner.Shapes.{ModeShape}
 use Rattle.av_kinds.specs.inner.Numbers.{counts_of, AreFew, AddsPorts}
 use Rattle.av_kinds.proofs.Placing.{one_more}
@@ -60,27 +60,27 @@ last_at name k (suc n) = let e : k + 1 + n ≡ k + suc n = omega arith in last_a
 abbrev pub tap_with : Width → List Arm → Operand → Tap
 tap_with w arms otherwise = record { width = w; arms = arms; otherwise = otherwise }
 
-pub tap_whole : (name : Naming) (w : Width) (word bound links : ℕ) (arms : List Arm) (otherwise : Operand) → arms ≡ options_by name word bound links → otherwise ≡ Name (name (word + links)) → tap_with w arms otherwise ≡ tap_by name w word bound links
-tap_whole name w word bound links arms otherwise h is = ap (λ xs. tap_with w xs otherwise) h ∙ ap (tap_with w (options_by name word bound links)) (is ∙ sym (last_at name word links))
+pub tap_whole : (name : Naming) (w : Width) (word bound selections : ℕ) (arms : List Arm) (otherwise : Operand) → arms ≡ options_by name word bound selections → otherwise ≡ Name (name (word + selections)) → tap_with w arms otherwise ≡ tap_by name w word bound selections
+tap_whole name w word bound selections arms otherwise h is = ap (λ xs. tap_with w xs otherwise) h ∙ ap (tap_with w (options_by name word bound selections)) (is ∙ sym (last_at name word selections))
 
 -- its words, and then its bounds
-pub words_put : (name : Naming) (w : Width) (word bound links : ℕ) (p0 p1 p2 : List Port) → p1 ≡ p0 ++ ports_by name w word (links + 1) → p2 ≡ p1 ++ bounds_by bound links → p2 ≡ p0 ++ (ports_by name w word (suc links) ++ bounds_by bound links)
-words_put name w word bound links p0 p1 p2 h k =
-    k ∙ ap (λ (ps : List Port). ps ++ bounds_by bound links) h ∙ append_assoc p0 (ports_by name w word (links + 1)) (bounds_by bound links)
-    ∙ ap (λ n. p0 ++ (ports_by name w word n ++ bounds_by bound links)) (sym (one_more links))
+pub words_put : (name : Naming) (w : Width) (word bound selections : ℕ) (p0 p1 p2 : List Port) → p1 ≡ p0 ++ ports_by name w word (selections + 1) → p2 ≡ p1 ++ bounds_by bound selections → p2 ≡ p0 ++ (ports_by name w word (suc selections) ++ bounds_by bound selections)
+words_put name w word bound selections p0 p1 p2 h k =
+    k ∙ ap (λ (ps : List Port). ps ++ bounds_by bound selections) h ∙ append_assoc p0 (ports_by name w word (selections + 1)) (bounds_by bound selections)
+    ∙ ap (λ n. p0 ++ (ports_by name w word n ++ bounds_by bound selections)) (sym (one_more selections))
 
 pub by_many : (name : Naming) (w : Width) (k n : ℕ) → length (ports_by name w k n) ≡ n
 by_many name w k zero = refl
 by_many name w k (suc n) = ap suc (by_many name w (k + 1) n)
 
-place_many : (name : Naming) (w : Width) (word bound links : ℕ) (old : List Port) → length (old ++ (ports_by name w word (suc links) ++ bounds_by bound links)) ≡ length old + suc links + links
-place_many name w word bound links old =
+place_many : (name : Naming) (w : Width) (word bound selections : ℕ) (old : List Port) → length (old ++ (ports_by name w word (suc selections) ++ bounds_by bound selections)) ≡ length old + suc selections + selections
+place_many name w word bound selections old =
     omega (
       arith,
-      length-append old (ports_by name w word (suc links) ++ bounds_by bound links),
-      length-append (ports_by name w word (suc links)) (bounds_by bound links),
-      by_many name w word (suc links),
-      by_many bound_name counter_width bound links,
+      length-append old (ports_by name w word (suc selections) ++ bounds_by bound selections),
+      length-append (ports_by name w word (suc selections)) (bounds_by bound selections),
+      by_many name w word (suc selections),
+      by_many bound_name counter_width bound selections,
     )
 
 abbrev pub interface_of : List Port → ℕ → ℕ → ℕ → Interface
@@ -89,35 +89,35 @@ interface_of ports inputs taps bounds = record { ports = ports; inputs = inputs;
 same_counts : (i j t u b d : ℕ) → i ≡ j → t ≡ u → b ≡ d → ◌≡◌ {A = PortCounts} (record { inputs = i; taps = t; bounds = b }) (record { inputs = j; taps = u; bounds = d })
 same_counts i j t u b d e f g = cc
 
-pub inputs_added : (old : Interface) (w : Width) (links : ℕ) (ports : List Port) → AreFew old → ports ≡ old.ports ++ (ports_by input_name w old.inputs (suc links) ++ bounds_by old.bounds links)
-    → AddsPorts old (interface_of ports (old.inputs + links + 1) old.taps (old.bounds + links)) (ports_in (counts_of old) Inputs w links) (past (counts_of old) Inputs links)
-inputs_added old w links ports few is =
-    let many : length ports ≡ length old.ports + suc links + links = ap length is ∙ place_many input_name w old.inputs old.bounds links old.ports in
-    record { ports_are = is; counts_are = same_counts (old.inputs + links + 1) (old.inputs + suc links) old.taps old.taps (old.bounds + links) (old.bounds + links) (omega arith) refl refl; few = omega (arith, many, few) }
+pub inputs_added : (old : Interface) (w : Width) (selections : ℕ) (ports : List Port) → AreFew old → ports ≡ old.ports ++ (ports_by input_name w old.inputs (suc selections) ++ bounds_by old.bounds selections)
+    → AddsPorts old (interface_of ports (old.inputs + selections + 1) old.taps (old.bounds + selections)) (ports_in (counts_of old) Inputs w selections) (past (counts_of old) Inputs selections)
+inputs_added old w selections ports few is =
+    let many : length ports ≡ length old.ports + suc selections + selections = ap length is ∙ place_many input_name w old.inputs old.bounds selections old.ports in
+    record { ports_are = is; counts_are = same_counts (old.inputs + selections + 1) (old.inputs + suc selections) old.taps old.taps (old.bounds + selections) (old.bounds + selections) (omega arith) refl refl; few = omega (arith, many, few) }
 
-pub taps_added : (old : Interface) (w : Width) (links : ℕ) (ports : List Port) → AreFew old → ports ≡ old.ports ++ (ports_by tap_name w old.taps (suc links) ++ bounds_by old.bounds links)
-    → AddsPorts old (interface_of ports old.inputs (old.taps + links + 1) (old.bounds + links)) (ports_in (counts_of old) Taps w links) (past (counts_of old) Taps links)
-taps_added old w links ports few is =
-    let many : length ports ≡ length old.ports + suc links + links = ap length is ∙ place_many tap_name w old.taps old.bounds links old.ports in
-    record { ports_are = is; counts_are = same_counts old.inputs old.inputs (old.taps + links + 1) (old.taps + suc links) (old.bounds + links) (old.bounds + links) refl (omega arith) refl; few = omega (arith, many, few) }
+pub taps_added : (old : Interface) (w : Width) (selections : ℕ) (ports : List Port) → AreFew old → ports ≡ old.ports ++ (ports_by tap_name w old.taps (suc selections) ++ bounds_by old.bounds selections)
+    → AddsPorts old (interface_of ports old.inputs (old.taps + selections + 1) (old.bounds + selections)) (ports_in (counts_of old) Taps w selections) (past (counts_of old) Taps selections)
+taps_added old w selections ports few is =
+    let many : length ports ≡ length old.ports + suc selections + selections = ap length is ∙ place_many tap_name w old.taps old.bounds selections old.ports in
+    record { ports_are = is; counts_are = same_counts old.inputs old.inputs (old.taps + selections + 1) (old.taps + suc selections) (old.bounds + selections) (old.bounds + selections) refl (omega arith) refl; few = omega (arith, many, few) }
 
 -- a place of the kind's own pipelines has none
 pub none_added : (old : Interface) → AreFew old → AddsPorts old old [] (counts_of old)
 none_added old few = record { ports_are = sym (append-nil old.ports); counts_are = refl; few = few }
 
 -- what is said by the inlet is said of the place
-pub place_tap : (at : PortCounts) (site : SiteShape) (i : Inlet) (tap : Tap) → site.inlet ≡ i → tap ≡ tap_in at i site.width site.links → tap ≡ tap_of at site
-place_tap at site i tap e is = is ∙ ap (λ j. tap_in at j site.width site.links) (sym e)
+pub place_tap : (at : PortCounts) (site : SiteShape) (i : Inlet) (tap : Tap) → site.inlet ≡ i → tap ≡ tap_in at i site.width site.selections → tap ≡ tap_of at site
+place_tap at site i tap e is = is ∙ ap (λ j. tap_in at j site.width site.selections) (sym e)
 
-pub place_ports : (old new : Interface) (site : SiteShape) (i : Inlet) → site.inlet ≡ i → AddsPorts old new (ports_in (counts_of old) i site.width site.links) (past (counts_of old) i site.links)
+pub place_ports : (old new : Interface) (site : SiteShape) (i : Inlet) → site.inlet ≡ i → AddsPorts old new (ports_in (counts_of old) i site.width site.selections) (past (counts_of old) i site.selections)
     → AddsPorts old new (site_ports (counts_of old) site) (past_site (counts_of old) site)
 place_ports old new site i e h = record {
-  ports_are = h.ports_are ∙ ap (λ j. old.ports ++ ports_in (counts_of old) j site.width site.links) (sym e);
-  counts_are = h.counts_are ∙ ap (λ j. past (counts_of old) j site.links) (sym e);
+  ports_are = h.ports_are ∙ ap (λ j. old.ports ++ ports_in (counts_of old) j site.width site.selections) (sym e);
+  counts_are = h.counts_are ∙ ap (λ j. past (counts_of old) j site.selections) (sym e);
   few = h.few;
 }
 
--- ---- the intervals of a mode
+-- ---- the windows of a mode
 
 abbrev pub guard_at : Operand → Operand → Guard
 guard_at first last = Within first last
@@ -135,40 +135,40 @@ pub guard_put : (bound k : ℕ) (guards next : List Guard) (g : Guard) → guard
 guard_put bound k guards next g h n is =
     n ∙ ap (λ (xs : List Guard). xs ++ g ∷ []) h ∙ ap (λ (x : Guard). guards_by bound k ++ x ∷ []) is ∙ sym (guards_more bound k) ∙ ap (guards_by bound) (one_more k)
 
-intervals_more : (b n : ℕ) → interval_ports b (suc n) ≡ interval_ports b n ++ ports_by bound_name counter_width (b + 2 * n) 2
-intervals_more b zero = let e : b ≡ b + 2 * 0 = omega arith in ap (λ i. port counter_width (bound_name i) ∷ port counter_width (bound_name (i + 1)) ∷ []) e
-intervals_more b (suc n) =
+windows_more : (b n : ℕ) → window_ports b (suc n) ≡ window_ports b n ++ ports_by bound_name counter_width (b + 2 * n) 2
+windows_more b zero = let e : b ≡ b + 2 * 0 = omega arith in ap (λ i. port counter_width (bound_name i) ∷ port counter_width (bound_name (i + 1)) ∷ []) e
+windows_more b (suc n) =
     let e : b + 2 + 2 * n ≡ b + 2 * suc n = omega arith in
     ap (λ (ps : List Port). port counter_width (bound_name b) ∷ port counter_width (bound_name (b + 1)) ∷ ps)
-    (intervals_more (b + 2) n ∙ ap (λ i. interval_ports (b + 2) n ++ ports_by bound_name counter_width i 2) e)
+    (windows_more (b + 2) n ∙ ap (λ i. window_ports (b + 2) n ++ ports_by bound_name counter_width i 2) e)
 
-pub interval_put : (bound k : ℕ) (old ports next : List Port) → ports ≡ old ++ interval_ports bound k → next ≡ ports ++ ports_by bound_name counter_width (bound + 2 * k) 2 → next ≡ old ++ interval_ports bound (k + 1)
-interval_put bound k old ports next h n =
-    n ∙ ap (λ (ps : List Port). ps ++ ports_by bound_name counter_width (bound + 2 * k) 2) h ∙ append_assoc old (interval_ports bound k) (ports_by bound_name counter_width (bound + 2 * k) 2)
-    ∙ ap (λ (ps : List Port). old ++ ps) (sym (intervals_more bound k)) ∙ ap (λ i. old ++ interval_ports bound i) (one_more k)
+pub window_put : (bound k : ℕ) (old ports next : List Port) → ports ≡ old ++ window_ports bound k → next ≡ ports ++ ports_by bound_name counter_width (bound + 2 * k) 2 → next ≡ old ++ window_ports bound (k + 1)
+window_put bound k old ports next h n =
+    n ∙ ap (λ (ps : List Port). ps ++ ports_by bound_name counter_width (bound + 2 * k) 2) h ∙ append_assoc old (window_ports bound k) (ports_by bound_name counter_width (bound + 2 * k) 2)
+    ∙ ap (λ (ps : List Port). old ++ ps) (sym (windows_more bound k)) ∙ ap (λ i. old ++ window_ports bound i) (one_more k)
 
-pub intervals_many : (b n : ℕ) → length (interval_ports b n) ≡ 2 * n
-intervals_many b zero = refl
-intervals_many b (suc n) = let h = intervals_many (b + 2) n in omega (arith, h)
+pub windows_many : (b n : ℕ) → length (window_ports b n) ≡ 2 * n
+windows_many b zero = refl
+windows_many b (suc n) = let h = windows_many (b + 2) n in omega (arith, h)
 
--- the places of a mode, and then its intervals
+-- the places of a mode, and then its windows
 whole_added : (old mid : Interface) (mode : ModeShape) (ports : List Port) → AddsPorts old mid (sites_ports (counts_of old) mode.sites) (past_sites (counts_of old) mode.sites)
-    → ports ≡ mid.ports ++ interval_ports mid.bounds mode.intervals
-    → AddsPorts old (interface_of ports mid.inputs mid.taps (mid.bounds + 2 * mode.intervals)) (tested_ports (counts_of old) mode) (past_tested (counts_of old) mode)
+    → ports ≡ mid.ports ++ window_ports mid.bounds mode.windows
+    → AddsPorts old (interface_of ports mid.inputs mid.taps (mid.bounds + 2 * mode.windows)) (tested_ports (counts_of old) mode) (past_tested (counts_of old) mode)
 whole_added old mid mode ports h is =
     let at = counts_of old in
     let to = past_sites at mode.sites in
     let bounds : mid.bounds ≡ to.bounds = ap (λ (c : PortCounts). c.bounds) h.counts_are in
-    let many : length ports ≡ length mid.ports + 2 * mode.intervals = ap length is ∙ length-append mid.ports (interval_ports mid.bounds mode.intervals) ∙ ap (λ i. length mid.ports + i) (intervals_many mid.bounds mode.intervals) in
+    let many : length ports ≡ length mid.ports + 2 * mode.windows = ap length is ∙ length-append mid.ports (window_ports mid.bounds mode.windows) ∙ ap (λ i. length mid.ports + i) (windows_many mid.bounds mode.windows) in
     record {
-      ports_are = is ∙ ap (λ b. mid.ports ++ interval_ports b mode.intervals) bounds ∙ ap (λ (ps : List Port). ps ++ interval_ports to.bounds mode.intervals) h.ports_are
-          ∙ append_assoc old.ports (sites_ports at mode.sites) (interval_ports to.bounds mode.intervals);
-      counts_are = ap (λ (c : PortCounts). let r : PortCounts = record { inputs = c.inputs; taps = c.taps; bounds = c.bounds + 2 * mode.intervals } in r) h.counts_are;
+      ports_are = is ∙ ap (λ b. mid.ports ++ window_ports b mode.windows) bounds ∙ ap (λ (ps : List Port). ps ++ window_ports to.bounds mode.windows) h.ports_are
+          ∙ append_assoc old.ports (sites_ports at mode.sites) (window_ports to.bounds mode.windows);
+      counts_are = ap (λ (c : PortCounts). let r : PortCounts = record { inputs = c.inputs; taps = c.taps; bounds = c.bounds + 2 * mode.windows } in r) h.counts_are;
       few = omega (arith, many, h.few);
     }
 
-pub tested_added : (old mid : Interface) (mode : ModeShape) (n : ℕ) (ports : List Port) → n ≡ mode.intervals → AddsPorts old mid (sites_ports (counts_of old) mode.sites) (past_sites (counts_of old) mode.sites) → ports ≡ mid.ports ++ interval_ports mid.bounds n
+pub tested_added : (old mid : Interface) (mode : ModeShape) (n : ℕ) (ports : List Port) → n ≡ mode.windows → AddsPorts old mid (sites_ports (counts_of old) mode.sites) (past_sites (counts_of old) mode.sites) → ports ≡ mid.ports ++ window_ports mid.bounds n
     → AddsPorts old (interface_of ports mid.inputs mid.taps (mid.bounds + 2 * n)) (tested_ports (counts_of old) mode) (past_tested (counts_of old) mode)
 tested_added old mid mode n ports e h is =
-    subst (λ i. ports ≡ mid.ports ++ interval_ports mid.bounds i → AddsPorts old (interface_of ports mid.inputs mid.taps (mid.bounds + 2 * i)) (tested_ports (counts_of old) mode) (past_tested (counts_of old) mode)) (sym e)
+    subst (λ i. ports ≡ mid.ports ++ window_ports mid.bounds i → AddsPorts old (interface_of ports mid.inputs mid.taps (mid.bounds + 2 * i)) (tested_ports (counts_of old) mode) (past_tested (counts_of old) mode)) (sym e)
     (whole_added old mid mode ports h) is

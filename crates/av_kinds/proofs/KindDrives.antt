@@ -14,7 +14,7 @@ use Rattle.av_net.specs.Names.{IsAmong, targets_of}
 use Rattle.av_net.specs.Designs.{HasBits}
 use Rattle.av_net.specs.Sound.{IsInOrder, SuitsWidth, IsFitting, ComparesByOrder}
 use Rattle.av_net.proofs.Ordered.{each_weaker as each_operand}
-use Rattle.av_kinds.specs.declared.gates.Gate.{Gate}
+use Rattle.av_kinds.specs.declared.gates.LaneGate.{LaneGate}
 use Rattle.av_kinds.specs.Names.{Naming, pipe_name, inner_name}
 use Rattle.av_kinds.specs.Tops.{port}
 use Rattle.av_kinds.specs.inner.Gates.{drives_from, ports_from}
@@ -87,7 +87,7 @@ one_more K name n names h = record {
     ]
 
 -- after the drives of wires, others follow
-gates_good : (K : Known) (widths : Widths) (name : Naming) (n m : ℕ) (gates : List Gate) (names : List (List ℕ)) (more : List Drive) → HasWires K name n names → FineGates K widths name n gates → Sized widths name n gates → n + length gates ≡ m
+gates_good : (K : Known) (widths : Widths) (name : Naming) (n m : ℕ) (gates : List LaneGate) (names : List (List ℕ)) (more : List Drive) → HasWires K name n names → FineGates K widths name n gates → Sized widths name n gates → n + length gates ≡ m
     → ((known : List (List ℕ)) → HasWires K name m known → ((x : List ℕ) → Contains names x → Contains known x) → AreGood widths known more) → AreGood widths names (drives_from name n gates ++ more)
 gates_good K widths name n m [] names more h fine sized e next = let f : n ≡ m = omega arith in next names (subst (λ k. HasWires K name k names) f h) (λ x at. at)
 gates_good K widths name n m (g ∷ gates) names more h fine sized e next = (
@@ -102,7 +102,7 @@ gates_good K widths name n m (g ∷ gates) names more h fine sized e next = (
       (λ known wires grows. next known wires (λ x at. grows x (Contains-append_left names (name n ∷ []) x at))),
 )
 
-pub sized_from : (widths : Widths) (name : Naming) (n : ℕ) (gates : List Gate) → AllByRecursion (IsWide widths) (ports_from name n gates) → Sized widths name n gates
+pub sized_from : (widths : Widths) (name : Naming) (n : ℕ) (gates : List LaneGate) → AllByRecursion (IsWide widths) (ports_from name n gates) → Sized widths name n gates
 sized_from widths name n [] wide = tt
 sized_from widths name n (g ∷ gates) wide = (wide.0, sized_from widths name (n + 1) gates wide.1)
 

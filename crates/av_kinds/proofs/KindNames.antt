@@ -11,7 +11,7 @@ use Rattle.av_net.specs.declared.netlist.Drive.{Drive}
 use Rattle.av_net.specs.Names.{AreDistinct, clk, rst, names_of, targets_of, all_names}
 use Rattle.av_net.specs.Flat.{kind_module}
 use Rattle.av_net.proofs.Tested.{distinct_tested}
-use Rattle.av_kinds.specs.declared.gates.Gate.{Gate}
+use Rattle.av_kinds.specs.declared.gates.LaneGate.{LaneGate}
 use Rattle.av_kinds.specs.Names.{Naming, pipe_name, inner_name, kind_value, kind_counter}
 use Rattle.av_kinds.specs.Counters.{counter_width}
 use Rattle.av_kinds.specs.Tops.{port}
@@ -24,11 +24,11 @@ use Rattle.av_kinds.proofs.PortNames.{joined_apart, IsIn, letters_apart, numbers
 
 -- ---- wires
 
-pub names_from : (name : Naming) (n : ℕ) (gates : List Gate) → names_of (ports_from name n gates) ≡ map name (range_with_len n (length gates))
+pub names_from : (name : Naming) (n : ℕ) (gates : List LaneGate) → names_of (ports_from name n gates) ≡ map name (range_with_len n (length gates))
 names_from name n [] = refl
 names_from name n (g ∷ gates) = ap (λ ys. name n ∷ ys) (names_from name (n + 1) gates)
 
-pub targets_from : (name : Naming) (n : ℕ) (gates : List Gate) → targets_of (drives_from name n gates) ≡ map name (range_with_len n (length gates))
+pub targets_from : (name : Naming) (n : ℕ) (gates : List LaneGate) → targets_of (drives_from name n gates) ≡ map name (range_with_len n (length gates))
 targets_from name n [] = refl
 targets_from name n (g ∷ gates) = ap (λ ys. name n ∷ ys) (targets_from name (n + 1) gates)
 

@@ -18,7 +18,7 @@ use Rattle.av_net.specs.Names.{AreDistinct, names_of, targets_of, registers_of, 
 use Rattle.av_net.specs.Sound.{SuitsWidth, IsFitting, ComparesByOrder, IsSound}
 use Rattle.av_net.specs.Designs.{HasBits}
 use Rattle.av_net.specs.Flat.{kind_module}
-use Rattle.av_kinds.specs.declared.gates.Gate.{Gate}
+use Rattle.av_kinds.specs.declared.gates.LaneGate.{LaneGate}
 use Rattle.av_kinds.specs.Names.{Naming, inner_name, kind_counter}
 use Rattle.av_kinds.specs.Counters.{counter_width}
 use Rattle.av_kinds.specs.inner.Gates.{drives_from, ports_from}
@@ -64,7 +64,7 @@ module _ (c : Operand) where
       let last : Drive = record { target = output_of k lanes; operation = b.root } in
       map-append (λ (d : Drive). d.target) (drives_from (inner_name n) 0 b.gates) (last ∷ lanes_drives c (past_modes at lane.modes) (n + length b.gates) (k + 1) lanes)
 
-  same_names : (name : Naming) (n : ℕ) (gates : List Gate) → targets_of (drives_from name n gates) ≡ names_of (ports_from name n gates)
+  same_names : (name : Naming) (n : ℕ) (gates : List LaneGate) → targets_of (drives_from name n gates) ≡ names_of (ports_from name n gates)
   same_names name n gates = targets_from name n gates ∙ sym (names_from name n gates)
 
   target_there : (at : PortCounts) (n k : ℕ) (lanes : List LaneShape) (x : List ℕ) → Contains (targets at n k lanes) x → Contains (outs k lanes ++ wires at n lanes) x

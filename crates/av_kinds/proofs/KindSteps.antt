@@ -7,7 +7,7 @@ use Rattle.av_net.specs.declared.operation.Operand.{Operand}
 use Rattle.av_net.specs.declared.operation.Operation.{Operation}
 use Rattle.av_net.specs.declared.netlist.Drive.{Drive}
 use Rattle.av_net.specs.declared.netlist.Port.{Port}
-use Rattle.av_kinds.specs.declared.gates.Gate.{Gate}
+use Rattle.av_kinds.specs.declared.gates.LaneGate.{LaneGate}
 use Rattle.av_kinds.specs.declared.interface.Interface.{Interface}
 use Rattle.av_kinds.specs.declared.kind.KindParts.{KindParts}
 use Rattle.av_kinds.specs.declared.naming.WireNames.{WireNames}
@@ -33,7 +33,7 @@ use Rattle.av_kinds.proofs.Placing.{drive_of, read_mapped, from_place}
 abbrev pub parts_with : List Port → List Port → List Drive → KindParts
 parts_with outputs wires drives = record { outputs = outputs; wires = wires; drives = drives }
 
-pub lane_written : (counter : Operand) (name : List ℕ) (w : Width) (lane : LaneDatapathsMade) (old : KindParts) (names : WireNames) (empty gates : List Gate) (root : Operation) (outputs wires : List Port) (mid drives : List Drive)
+pub lane_written : (counter : Operand) (name : List ℕ) (w : Width) (lane : LaneDatapathsMade) (old : KindParts) (names : WireNames) (empty gates : List LaneGate) (root : Operation) (outputs wires : List Port) (mid drives : List Drive)
     → names.first ≡ length old.wires → empty ≡ [] → AddsBuilt empty gates (modes_built (wire_in names) w counter (length empty) (as_datapath lane.otherwise) (map as_guarded lane.modes)) root
     → wires ≡ old.wires ++ ports_from (wire_in names) 0 gates → mid ≡ old.drives ++ drives_from (wire_in names) 0 gates → outputs ≡ old.outputs ++ port w name ∷ [] → drives ≡ mid ++ drive_of name root ∷ []
     → AddsLane counter name w lane old (parts_with outputs wires drives)
@@ -41,7 +41,7 @@ lane_written counter name w lane old names empty gates root outputs wires mid dr
     let n = length old.wires in
     let F : ℕ → ℕ → Built = λ f m. modes_built (inner_name f) w counter m (as_datapath lane.otherwise) (map as_guarded lane.modes) in
     let b = F n 0 in
-    let k : AddsBuilt [] gates b root = subst (λ f. AddsBuilt [] gates (F f 0) root) first (subst (λ (xs : List Gate). AddsBuilt xs gates (F names.first (length xs)) root) none h) in
+    let k : AddsBuilt [] gates b root = subst (λ f. AddsBuilt [] gates (F f 0) root) first (subst (λ (xs : List LaneGate). AddsBuilt xs gates (F names.first (length xs)) root) none h) in
     record {
       outputs = is_outputs;
       wires = is_wires ∙ ap (λ f. old.wires ++ ports_from (inner_name f) 0 gates) first ∙ ap (λ gs. old.wires ++ ports_from (inner_name n) 0 gs) k.gates_are;

@@ -11,10 +11,10 @@ use Rattle.av_net.specs.Names.{width_of}
 use Rattle.av_net.specs.Settled.{Holds}
 use Rattle.av_net.specs.Flat.{kind_module}
 use Rattle.av_net.specs.Instances.{words_in, AreFed, AreTaken, IsSettledIn}
-use Rattle.av_kinds.specs.declared.program.Source.{Source}
+use Rattle.av_kinds.specs.declared.program.WordSource.{WordSource}
 use Rattle.av_kinds.specs.declared.program.Inlet.{Inlet}
-use Rattle.av_kinds.specs.declared.program.Site.{Site}
-use Rattle.av_kinds.specs.declared.program.Source.TheVariants.{Line}
+use Rattle.av_kinds.specs.declared.program.ProgramSite.{ProgramSite}
+use Rattle.av_kinds.specs.declared.program.WordSource.TheVariants.{Line}
 use Rattle.av_kinds.specs.declared.program.Inlet.TheVariants.{Inputs, Taps, Pipe}
 use Rattle.av_kinds.specs.Programs.{source_in, Mode, mode_at, Lane}
 use Rattle.av_kinds.specs.Names.{Labels, pipe_name, kind_counter}
@@ -43,12 +43,12 @@ pipe_taken names inner v k q (suc h) (shape ∷ g ∷ shapes) lt taken =
     rw (e, f) (pipe_taken names inner v (k + 1) (q + 1) h (g ∷ shapes) (omega (arith, lt)) taken.1)
 
 -- of a cell whose lanes have numbers from q on: a place that a pipeline brings reads the lane of that pipeline in its own cycle
-abbrev pub OfPipe : ℕ → ℕ → ℕ → Inlet → Site → Type 0
+abbrev pub OfPipe : ℕ → ℕ → ℕ → Inlet → ProgramSite → Type 0
 OfPipe q count c Inputs site = Unit {0}
 OfPipe q count c Taps site = Unit {0}
 OfPipe q count c (Pipe h) site = (suc h < count) × (source_in c site ≡ Line (q + h) 0)
 
-abbrev pub IsOfPipe : ℕ → ℕ → ℕ → Site → Type 0
+abbrev pub IsOfPipe : ℕ → ℕ → ℕ → ProgramSite → Type 0
 IsOfPipe q count c site = OfPipe q count c site.inlet site
 
 abbrev pub AreOfPipes : ℕ → ℕ → ℕ → List ModeShape → List Mode → Type 0
@@ -60,7 +60,7 @@ LanesOfPipes q count c (shape ∷ shapes) (lane ∷ lanes) = AreOfPipes q count 
 LanesOfPipes q count c [] lanes = Unit {0}
 LanesOfPipes q count c (shape ∷ shapes) [] = Unit {0}
 
-site_piped : (names : Labels) (inner v : Words) (q c : ℕ) (all : List LaneShape) → AreTaken inner v (lanes_outputs 0 all) (outputs_from names q (length all)) → (site : Site) → IsOfPipe q (length all) c site → IsPiped names inner v c site
+site_piped : (names : Labels) (inner v : Words) (q c : ℕ) (all : List LaneShape) → AreTaken inner v (lanes_outputs 0 all) (outputs_from names q (length all)) → (site : ProgramSite) → IsOfPipe q (length all) c site → IsPiped names inner v c site
 site_piped names inner v q c all taken site = by_inlet site.inlet
   where
     by_inlet : (i : Inlet) → OfPipe q (length all) c i site → PipedBy names inner v c i site
@@ -69,7 +69,7 @@ site_piped names inner v q c all taken site = by_inlet site.inlet
     by_inlet (Pipe k) h =
         let e : 0 + k ≡ k = omega arith in
         let own : v (names.value (q + k)) ≡ inner (pipe_name k) = subst (λ n. v (names.value (q + k)) ≡ inner (pipe_name n)) e (pipe_taken names inner v 0 q k all h.0 taken) in
-        sym own ∙ ap (λ (s : Source). word_of v (operand_of names site.width s)) (sym h.1)
+        sym own ∙ ap (λ (s : WordSource). word_of v (operand_of names site.width s)) (sym h.1)
 
 modes_piped : (names : Labels) (inner v : Words) (q c : ℕ) (all : List LaneShape) → AreTaken inner v (lanes_outputs 0 all) (outputs_from names q (length all)) → (shapes : List ModeShape) (modes : List Mode) → AreOfPipes q (length all) c shapes modes → ArePiped names inner v c shapes modes
 modes_piped names inner v q c all taken [] modes h = tt
@@ -94,8 +94,8 @@ counter_wide : (widths : Widths) (test : Bool) (ports : List Port) → AllByRecu
 counter_wide widths true ports wide = (λ e. wide.0, wide.1)
 counter_wide widths false ports wide = (λ e. absurd cc, wide)
 
--- In settled words the wires of a cell's lanes have the words of their works, by what the counter has and by the words of their sources, for whatever its links and
--- intervals are, as long as the kind has room for them.
+-- In settled words the wires of a cell's lanes have the words of their works, by what the counter has and by the words of their sources, for whatever its selections and
+-- windows are, as long as the kind has room for them.
 pub instance_shows : (names : Labels) (counter : List ℕ) (number p q c : ℕ) (shape : List LaneShape) (lanes : List Lane) (v : Words)
     → IsSettledIn (kind_by number shape) (instance_by names counter p number q shape lanes) v
     → AllByRecursion (IsWide (width_of (kind_module (kind_by number shape)))) (kind_inputs shape)

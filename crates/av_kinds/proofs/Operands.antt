@@ -3,64 +3,64 @@ use Rattle.std.proofs.Common.{◌≡◌, ℕ, zero, suc, ◌+◌, List, [], ◌�
 use Rattle.std.specs.Prelude.{slice_get}
 use Rattle.av_base.proofs.Lists.{some_is}
 use Rattle.av_net.specs.declared.operation.Operand.{Operand}
-use Rattle.av_kinds.specs.declared.program.Source.{Source}
-use Rattle.av_kinds.specs.declared.program.Interval.{Interval}
-use Rattle.av_kinds.specs.declared.program.Link.{Link}
-use Rattle.av_kinds.specs.declared.program.Site.{Site}
+use Rattle.av_kinds.specs.declared.program.WordSource.{WordSource}
+use Rattle.av_kinds.specs.declared.program.Window.{Window}
+use Rattle.av_kinds.specs.declared.program.Selection.{Selection}
+use Rattle.av_kinds.specs.declared.program.ProgramSite.{ProgramSite}
 use Rattle.av_kinds.specs.declared.shape.SiteShape.{SiteShape}
 use Rattle.av_kinds.specs.Programs.{Lane}
 use Rattle.av_kinds.specs.Names.{Labels}
 use Rattle.av_kinds.specs.inner.Counts.{bound}
 use Rattle.av_kinds.specs.inner.Shapes.{LaneShape}
-use Rattle.av_kinds.specs.inner.Instances.{words_for, bounds_for, site_operands, sites_operands, intervals_for, modes_operands, lanes_operands, outputs_from}
+use Rattle.av_kinds.specs.inner.Instances.{words_for, bounds_for, site_operands, sites_operands, windows_for, modes_operands, lanes_operands, outputs_from}
 
 -- ---- a place
 
--- the source of a link, or the last one where it is not there
-abbrev pub source_at : Option Link → Source → Source
+-- the source of a selection, or the last one where it is not there
+abbrev pub source_at : Option Selection → WordSource → WordSource
 source_at None otherwise = otherwise
 source_at (Some l) otherwise = l.source
 
-abbrev pub bound_at : Option Link → ℕ
+abbrev pub bound_at : Option Selection → ℕ
 bound_at None = 0
 bound_at (Some l) = l.last
 
-pub words_next : (f : Source → Operand) (k n : ℕ) (links : List Link) (otherwise : Source) → words_for f (suc n) (drop k links) otherwise ≡ f (source_at (slice_get links k) otherwise) ∷ words_for f n (drop (suc k) links) otherwise
+pub words_next : (f : WordSource → Operand) (k n : ℕ) (selections : List Selection) (otherwise : WordSource) → words_for f (suc n) (drop k selections) otherwise ≡ f (source_at (slice_get selections k) otherwise) ∷ words_for f n (drop (suc k) selections) otherwise
 words_next f zero n [] otherwise = refl
-words_next f zero n (l ∷ links) otherwise = refl
+words_next f zero n (l ∷ selections) otherwise = refl
 words_next f (suc k) n [] otherwise = refl
-words_next f (suc k) n (l ∷ links) otherwise = words_next f k n links otherwise
+words_next f (suc k) n (l ∷ selections) otherwise = words_next f k n selections otherwise
 
-pub bounds_next : (k n : ℕ) (links : List Link) → bounds_for (suc n) (drop k links) ≡ bound (bound_at (slice_get links k)) ∷ bounds_for n (drop (suc k) links)
+pub bounds_next : (k n : ℕ) (selections : List Selection) → bounds_for (suc n) (drop k selections) ≡ bound (bound_at (slice_get selections k)) ∷ bounds_for n (drop (suc k) selections)
 bounds_next zero n [] = refl
-bounds_next zero n (l ∷ links) = refl
+bounds_next zero n (l ∷ selections) = refl
 bounds_next (suc k) n [] = refl
-bounds_next (suc k) n (l ∷ links) = bounds_next k n links
+bounds_next (suc k) n (l ∷ selections) = bounds_next k n selections
 
--- ---- intervals
+-- ---- windows
 
-abbrev pub first_at : Option Interval → ℕ
+abbrev pub first_at : Option Window → ℕ
 first_at None = 1
 first_at (Some i) = i.first
 
-abbrev pub last_at : Option Interval → ℕ
+abbrev pub last_at : Option Window → ℕ
 last_at None = 0
 last_at (Some i) = i.last
 
-pub intervals_next : (k n : ℕ) (intervals : List Interval) → intervals_for (suc n) (drop k intervals) ≡ bound (first_at (slice_get intervals k)) ∷ bound (last_at (slice_get intervals k)) ∷ intervals_for n (drop (suc k) intervals)
-intervals_next zero n [] = refl
-intervals_next zero n (i ∷ intervals) = refl
-intervals_next (suc k) n [] = refl
-intervals_next (suc k) n (i ∷ intervals) = intervals_next k n intervals
+pub windows_next : (k n : ℕ) (windows : List Window) → windows_for (suc n) (drop k windows) ≡ bound (first_at (slice_get windows k)) ∷ bound (last_at (slice_get windows k)) ∷ windows_for n (drop (suc k) windows)
+windows_next zero n [] = refl
+windows_next zero n (i ∷ windows) = refl
+windows_next (suc k) n [] = refl
+windows_next (suc k) n (i ∷ windows) = windows_next k n windows
 
 -- ---- places and lanes
 
-pub sites_next : (names : Labels) (k : ℕ) (shapes : List SiteShape) (sites : List Site) (shape : SiteShape) (site : Site) → slice_get shapes k ≡ Some shape → slice_get sites k ≡ Some site
+pub sites_next : (names : Labels) (k : ℕ) (shapes : List SiteShape) (sites : List ProgramSite) (shape : SiteShape) (site : ProgramSite) → slice_get shapes k ≡ Some shape → slice_get sites k ≡ Some site
     → sites_operands names (drop k shapes) (drop k sites) ≡ site_operands names shape site ++ sites_operands names (drop (suc k) shapes) (drop (suc k) sites)
 sites_next names k [] sites shape site is at = absurd cc
 sites_next names k (s ∷ shapes) [] shape site is at = absurd cc
 sites_next names zero (s ∷ shapes) (t ∷ sites) shape site is at =
-    ap (λ (x : SiteShape). site_operands names x t ++ sites_operands names shapes sites) (some_is s shape is) ∙ ap (λ (y : Site). site_operands names shape y ++ sites_operands names shapes sites) (some_is t site at)
+    ap (λ (x : SiteShape). site_operands names x t ++ sites_operands names shapes sites) (some_is s shape is) ∙ ap (λ (y : ProgramSite). site_operands names shape y ++ sites_operands names shapes sites) (some_is t site at)
 sites_next names (suc k) (s ∷ shapes) (t ∷ sites) shape site is at = sites_next names k shapes sites shape site is at
 
 pub lanes_next : (names : Labels) (k : ℕ) (shapes : List LaneShape) (lanes : List Lane) (shape : LaneShape) (lane : Lane) → slice_get shapes k ≡ Some shape → slice_get lanes k ≡ Some lane

@@ -10,7 +10,7 @@ use Rattle.av_net.specs.declared.operation.Operation.{Operation}
 use Rattle.av_net.specs.declared.netlist.Port.{Port}
 use Rattle.av_net.specs.declared.netlist.Drive.{Drive}
 use Rattle.av_net.specs.declared.netlist.Step.{Step}
-use Rattle.av_kinds.specs.declared.gates.Gate.{Gate}
+use Rattle.av_kinds.specs.declared.gates.LaneGate.{LaneGate}
 use Rattle.av_kinds.specs.declared.naming.LaneNames.{LaneNames}
 use Rattle.av_kinds.specs.Names.{Naming, line_name, labels}
 use Rattle.av_kinds.specs.Programs.{Program}
@@ -66,51 +66,51 @@ drive_of target operation = record { target = target; operation = operation }
 
 -- ---- gates
 
-ports_more : (name : Naming) (n : ℕ) (gates : List Gate) (g : Gate) (k : ℕ) → n + length gates ≡ k → ports_from name n (gates ++ g ∷ []) ≡ ports_from name n gates ++ record { name = name k; width = g.width } ∷ []
+ports_more : (name : Naming) (n : ℕ) (gates : List LaneGate) (g : LaneGate) (k : ℕ) → n + length gates ≡ k → ports_from name n (gates ++ g ∷ []) ≡ ports_from name n gates ++ record { name = name k; width = g.width } ∷ []
 ports_more name n [] g k at = let e : n ≡ k = omega arith in ap (λ i. let p : Port = record { name = name i; width = g.width } in p ∷ []) e
 ports_more name n (f ∷ gates) g k at = let e : n + 1 + length gates ≡ k = omega arith in ap (λ (ps : List Port). record { name = name n; width = f.width } ∷ ps) (ports_more name (n + 1) gates g k e)
 
-drives_more : (name : Naming) (n : ℕ) (gates : List Gate) (g : Gate) (k : ℕ) → n + length gates ≡ k → drives_from name n (gates ++ g ∷ []) ≡ drives_from name n gates ++ drive_of (name k) g.operation ∷ []
+drives_more : (name : Naming) (n : ℕ) (gates : List LaneGate) (g : LaneGate) (k : ℕ) → n + length gates ≡ k → drives_from name n (gates ++ g ∷ []) ≡ drives_from name n gates ++ drive_of (name k) g.operation ∷ []
 drives_more name n [] g k at = let e : n ≡ k = omega arith in ap (λ i. drive_of (name i) g.operation ∷ []) e
 drives_more name n (f ∷ gates) g k at = let e : n + 1 + length gates ≡ k = omega arith in ap (λ (ds : List Drive). drive_of (name n) f.operation ∷ ds) (drives_more name (n + 1) gates g k e)
 
-pub gates_many : (name : Naming) (n : ℕ) (gates : List Gate) → length (ports_from name n gates) ≡ length gates
+pub gates_many : (name : Naming) (n : ℕ) (gates : List LaneGate) → length (ports_from name n gates) ≡ length gates
 gates_many name n [] = refl
 gates_many name n (g ∷ gates) = ap suc (gates_many name (n + 1) gates)
 
 -- the number of an item is how many came before
-pub number_is : (gates : List Gate) (i n : ℕ) (g : Gate) → (i < length (enumerate_from 0 gates)) × (◌≡◌ {A = ℕ × Gate} (n, g) (get_or (enumerate_from 0 gates) i (n, g))) → n ≡ i
+pub number_is : (gates : List LaneGate) (i n : ℕ) (g : LaneGate) → (i < length (enumerate_from 0 gates)) × (◌≡◌ {A = ℕ × LaneGate} (n, g) (get_or (enumerate_from 0 gates) i (n, g))) → n ≡ i
 number_is gates i n g h =
     let within : i < length gates = omega (arith, h.0, length-enumerate_from 0 gates) in
-    let e : ◌≡◌ {A = ℕ × Gate} (n, g) (0 + i, get_or gates i g) = h.1 ∙ get_or-enumerate_from 0 gates i (n, g) within in
-    let first : n ≡ 0 + i = ap (λ (p : ℕ × Gate). p.0) e in
+    let e : ◌≡◌ {A = ℕ × LaneGate} (n, g) (0 + i, get_or gates i g) = h.1 ∙ get_or-enumerate_from 0 gates i (n, g) within in
+    let first : n ≡ 0 + i = ap (λ (p : ℕ × LaneGate). p.0) e in
     omega (arith, first)
 
-pub next_port : (name : Naming) (front old new : List Port) (yielded : List (ℕ × Gate)) (n : ℕ) (g : Gate) (text : List ℕ) → n ≡ length yielded
+pub next_port : (name : Naming) (front old new : List Port) (yielded : List (ℕ × LaneGate)) (n : ℕ) (g : LaneGate) (text : List ℕ) → n ≡ length yielded
     → old ≡ front ++ ports_from name 0 (map (λ p. p.1) yielded) → new ≡ old ++ record { name = text; width = g.width } ∷ [] → text ≡ name n
     → new ≡ front ++ ports_from name 0 (map (λ p. p.1) (yielded ++ (n, g) ∷ []))
 next_port name front old new yielded n g text many before is here =
-    let gates : List Gate = map (λ (p : ℕ × Gate). p.1) yielded in
-    let at : 0 + length gates ≡ n = omega (arith, many, length-map yielded (λ (p : ℕ × Gate). p.1)) in
-    let all : map (λ (p : ℕ × Gate). p.1) (yielded ++ (n, g) ∷ []) ≡ gates ++ g ∷ [] = map-append (λ (p : ℕ × Gate). p.1) yielded ((n, g) ∷ []) in
+    let gates : List LaneGate = map (λ (p : ℕ × LaneGate). p.1) yielded in
+    let at : 0 + length gates ≡ n = omega (arith, many, length-map yielded (λ (p : ℕ × LaneGate). p.1)) in
+    let all : map (λ (p : ℕ × LaneGate). p.1) (yielded ++ (n, g) ∷ []) ≡ gates ++ g ∷ [] = map-append (λ (p : ℕ × LaneGate). p.1) yielded ((n, g) ∷ []) in
     is ∙ ap (λ (ps : List Port). ps ++ record { name = text; width = g.width } ∷ []) before
     ∙ ap (λ (t : List ℕ). (front ++ ports_from name 0 gates) ++ record { name = t; width = g.width } ∷ []) here
     ∙ append_assoc front (ports_from name 0 gates) (record { name = name n; width = g.width } ∷ [])
     ∙ ap (λ (ps : List Port). front ++ ps) (sym (ports_more name 0 gates g n at))
-    ∙ ap (λ (gs : List Gate). front ++ ports_from name 0 gs) (sym all)
+    ∙ ap (λ (gs : List LaneGate). front ++ ports_from name 0 gs) (sym all)
 
-pub next_gate : (name : Naming) (front old new : List Drive) (yielded : List (ℕ × Gate)) (n : ℕ) (g : Gate) (text : List ℕ) → n ≡ length yielded
+pub next_gate : (name : Naming) (front old new : List Drive) (yielded : List (ℕ × LaneGate)) (n : ℕ) (g : LaneGate) (text : List ℕ) → n ≡ length yielded
     → old ≡ front ++ drives_from name 0 (map (λ p. p.1) yielded) → new ≡ old ++ drive_of text g.operation ∷ [] → text ≡ name n
     → new ≡ front ++ drives_from name 0 (map (λ p. p.1) (yielded ++ (n, g) ∷ []))
 next_gate name front old new yielded n g text many before is here =
-    let gates : List Gate = map (λ (p : ℕ × Gate). p.1) yielded in
-    let at : 0 + length gates ≡ n = omega (arith, many, length-map yielded (λ (p : ℕ × Gate). p.1)) in
-    let all : map (λ (p : ℕ × Gate). p.1) (yielded ++ (n, g) ∷ []) ≡ gates ++ g ∷ [] = map-append (λ (p : ℕ × Gate). p.1) yielded ((n, g) ∷ []) in
+    let gates : List LaneGate = map (λ (p : ℕ × LaneGate). p.1) yielded in
+    let at : 0 + length gates ≡ n = omega (arith, many, length-map yielded (λ (p : ℕ × LaneGate). p.1)) in
+    let all : map (λ (p : ℕ × LaneGate). p.1) (yielded ++ (n, g) ∷ []) ≡ gates ++ g ∷ [] = map-append (λ (p : ℕ × LaneGate). p.1) yielded ((n, g) ∷ []) in
     is ∙ ap (λ (ds : List Drive). ds ++ drive_of text g.operation ∷ []) before
     ∙ ap (λ (t : List ℕ). (front ++ drives_from name 0 gates) ++ drive_of t g.operation ∷ []) here
     ∙ append_assoc front (drives_from name 0 gates) (drive_of (name n) g.operation ∷ [])
     ∙ ap (λ (ds : List Drive). front ++ ds) (sym (drives_more name 0 gates g n at))
-    ∙ ap (λ (gs : List Gate). front ++ drives_from name 0 gs) (sym all)
+    ∙ ap (λ (gs : List LaneGate). front ++ drives_from name 0 gs) (sym all)
 
 -- ---- elements
 

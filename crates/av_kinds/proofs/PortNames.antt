@@ -15,7 +15,7 @@ use Rattle.av_kinds.specs.declared.shape.SiteShape.{SiteShape}
 use Rattle.av_kinds.specs.Names.{Naming, input_name, tap_name, bound_name}
 use Rattle.av_kinds.specs.Counters.{counter_width}
 use Rattle.av_kinds.specs.inner.Shapes.{ModeShape, LaneShape}
-use Rattle.av_kinds.specs.inner.Interfaces.{PortCounts, ports_by, bounds_by, ports_in, past, site_ports, past_site, sites_ports, past_sites, interval_ports, tested_ports, past_tested, modes_ports, past_modes}
+use Rattle.av_kinds.specs.inner.Interfaces.{PortCounts, ports_by, bounds_by, ports_in, past, site_ports, past_site, sites_ports, past_sites, window_ports, tested_ports, past_tested, modes_ports, past_modes}
 use Rattle.av_kinds.specs.inner.Kinds.{lanes_inputs}
 use Rattle.av_kinds.proofs.NameParts.{range_distinct, each_of_range, numbered_injective, nothing_distinct}
 
@@ -149,7 +149,7 @@ bounds_range at n ports e few = subst (PortNames at (with_bounds at n)) (sym e) 
 pub le_site : (at : PortCounts) (site : SiteShape) → Le at (past_site at site)
 le_site at site = by_inlet site.inlet
   where
-    by_inlet : (i : Inlet) → Le at (past at i site.links)
+    by_inlet : (i : Inlet) → Le at (past at i site.selections)
     by_inlet Inputs = record { inputs = omega arith; taps = omega arith; bounds = omega arith }
     by_inlet Taps = record { inputs = omega arith; taps = omega arith; bounds = omega arith }
     by_inlet (Pipe h) = le_same at
@@ -161,7 +161,7 @@ site_named at site = by_inlet site.inlet
     w = site.width
 
     n : ℕ
-    n = site.links
+    n = site.selections
 
     by_inlet : (i : Inlet) → IsSmall (past at i n) → PortNames at (past at i n) (names_of (ports_in at i w n))
     by_inlet Inputs few =
@@ -176,7 +176,7 @@ site_named at site = by_inlet site.inlet
         (taps_named at w (suc n) (small_before mid (with_bounds mid n) low few)) (bounds_range mid n (bounds_by at.bounds n) (names_by bound_name counter_width at.bounds n) few)
     by_inlet (Pipe h) few = no_names at at
 
--- ---- the places of a mode, and its intervals
+-- ---- the places of a mode, and its windows
 
 pub le_sites : (at : PortCounts) (sites : List SiteShape) → Le at (past_sites at sites)
 le_sites at [] = le_same at
@@ -195,9 +195,9 @@ two_more b n =
     let f : b + 1 + 1 ≡ b + 2 = omega arith in
     ap (λ k. map bound_name (range_with_len b k)) e ∙ ap (λ k. bound_name b ∷ bound_name (b + 1) ∷ map bound_name (range_with_len k (2 * n))) f
 
-intervals_by : (b n : ℕ) → names_of (interval_ports b n) ≡ map bound_name (range_with_len b (2 * n))
-intervals_by b zero = let e : 0 ≡ 2 * 0 = omega arith in ap (λ k. map bound_name (range_with_len b k)) e
-intervals_by b (suc n) = ap (λ (ys : List (List ℕ)). bound_name b ∷ bound_name (b + 1) ∷ ys) (intervals_by (b + 2) n) ∙ sym (two_more b n)
+windows_by : (b n : ℕ) → names_of (window_ports b n) ≡ map bound_name (range_with_len b (2 * n))
+windows_by b zero = let e : 0 ≡ 2 * 0 = omega arith in ap (λ k. map bound_name (range_with_len b k)) e
+windows_by b (suc n) = ap (λ (ys : List (List ℕ)). bound_name b ∷ bound_name (b + 1) ∷ ys) (windows_by (b + 2) n) ∙ sym (two_more b n)
 
 pub le_tested : (at : PortCounts) (mode : ModeShape) → Le at (past_tested at mode)
 le_tested at mode =
@@ -208,8 +208,8 @@ tested_named : (at : PortCounts) (mode : ModeShape) → IsSmall (past_tested at 
 tested_named at mode few =
     let mid = past_sites at mode.sites in
     let later : Le mid (past_tested at mode) = record { inputs = omega arith; taps = omega arith; bounds = omega arith } in
-    one_after at mid (past_tested at mode) (sites_ports at mode.sites) (interval_ports mid.bounds mode.intervals) (le_sites at mode.sites) later few (sites_named at mode.sites (small_before mid (past_tested at mode) later few))
-    (bounds_range mid (2 * mode.intervals) (interval_ports mid.bounds mode.intervals) (intervals_by mid.bounds mode.intervals) few)
+    one_after at mid (past_tested at mode) (sites_ports at mode.sites) (window_ports mid.bounds mode.windows) (le_sites at mode.sites) later few (sites_named at mode.sites (small_before mid (past_tested at mode) later few))
+    (bounds_range mid (2 * mode.windows) (window_ports mid.bounds mode.windows) (windows_by mid.bounds mode.windows) few)
 
 -- ---- lanes
 

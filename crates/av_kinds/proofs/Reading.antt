@@ -8,10 +8,10 @@ use Rattle.av_base.proofs.Lists.{each_by_place, each_weaker}
 use Rattle.av_kinds.specs.declared.program.CellLanes.{CellLanes}
 use Rattle.av_kinds.specs.declared.program.Inlet.{Inlet}
 use Rattle.av_kinds.specs.declared.program.Inlet.TheVariants.{Inputs, Taps, Pipe}
-use Rattle.av_kinds.specs.declared.program.Link.{Link}
-use Rattle.av_kinds.specs.declared.program.Site.{Site}
-use Rattle.av_kinds.specs.declared.program.Source.{Source}
-use Rattle.av_kinds.specs.declared.program.Source.TheVariants.{Word, Input, Line}
+use Rattle.av_kinds.specs.declared.program.Selection.{Selection}
+use Rattle.av_kinds.specs.declared.program.ProgramSite.{ProgramSite}
+use Rattle.av_kinds.specs.declared.program.WordSource.{WordSource}
+use Rattle.av_kinds.specs.declared.program.WordSource.TheVariants.{Word, Input, Line}
 use Rattle.av_kinds.specs.Programs.{Mode, Program, lanes_of, IsSource, IsInletOf, IsSite, IsModeOf, IsProgram}
 use Rattle.av_kinds.specs.Written.{ProgramMade, lane_of, program_of}
 use Rattle.av_kinds.specs.inner.Shapes.{LaneShapeMade, lane_shape_of, SuitLanes}
@@ -19,12 +19,12 @@ use Rattle.av_kinds.specs.inner.Reads.{IsThere, SiteThere, ModeThere, LaneThere}
 use Rattle.av_kinds.proofs.ShapeSuits.{below_length}
 use Rattle.av_kinds.proofs.TopInstances.{lane_of_cell, cell_within, suit_many, lanes_many}
 
-source_is_there : (program : Program) (w : Width) (source : Source) → IsSource program w source → IsThere (length program.lanes) source
+source_is_there : (program : Program) (w : Width) (source : WordSource) → IsSource program w source → IsThere (length program.lanes) source
 source_is_there program w (Word n) is = tt
 source_is_there program w (Input k) is = tt
 source_is_there program w (Line q d) is = below_length program.lanes q is.0 is.1
 
-site_is_there : (program : Program) (first q : ℕ) (site : Site) → IsSite program first q site → SiteThere (length program.lanes) site
+site_is_there : (program : Program) (first q : ℕ) (site : ProgramSite) → IsSite program first q site → SiteThere (length program.lanes) site
 site_is_there program first q site = by_inlet site.inlet
   where
     count : ℕ
@@ -32,15 +32,15 @@ site_is_there program first q site = by_inlet site.inlet
 
     by_inlet : (i : Inlet) → IsInletOf program first q i site → SiteThere count site
     by_inlet Inputs is = (
-      each_weaker (λ (l : Link). (l.last < 2 ^ 12) × IsSource program site.width l.source) (λ (l : Link). IsThere count l.source) (λ l h. source_is_there program site.width l.source h.1) site.links is.0,
+      each_weaker (λ (l : Selection). (l.last < 2 ^ 12) × IsSource program site.width l.source) (λ (l : Selection). IsThere count l.source) (λ l h. source_is_there program site.width l.source h.1) site.selections is.0,
       source_is_there program site.width site.otherwise is.1,
     )
     by_inlet Taps is = (
-      each_weaker (λ (l : Link). (l.last < 2 ^ 12) × IsSource program site.width l.source) (λ (l : Link). IsThere count l.source) (λ l h. source_is_there program site.width l.source h.1) site.links is.0,
+      each_weaker (λ (l : Selection). (l.last < 2 ^ 12) × IsSource program site.width l.source) (λ (l : Selection). IsThere count l.source) (λ l h. source_is_there program site.width l.source h.1) site.selections is.0,
       source_is_there program site.width site.otherwise is.1,
     )
     by_inlet (Pipe h) is = (
-      subst (AllByRecursion (λ (l : Link). IsThere count l.source)) (sym is.4) tt,
+      subst (AllByRecursion (λ (l : Selection). IsThere count l.source)) (sym is.4) tt,
       subst (IsThere count) (sym is.5) (below_length program.lanes (first + h) is.0 is.1),
     )
 

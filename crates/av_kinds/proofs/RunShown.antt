@@ -8,12 +8,12 @@ use Rattle.av_base.specs.declared.width.Width.{Width}
 use Rattle.av_tree.specs.Values.{combined}
 use Rattle.av_net.specs.Meaning.{Words, word_of}
 use Rattle.av_flat.specs.Trees.{Tree, reference, constant, binary, choice, pick}
-use Rattle.av_kinds.specs.declared.program.Source.{Source}
-use Rattle.av_kinds.specs.declared.program.Source.TheVariants.{Word, Input, Line}
-use Rattle.av_kinds.specs.declared.program.Link.{Link}
+use Rattle.av_kinds.specs.declared.program.WordSource.{WordSource}
+use Rattle.av_kinds.specs.declared.program.WordSource.TheVariants.{Word, Input, Line}
+use Rattle.av_kinds.specs.declared.program.Selection.{Selection}
 use Rattle.av_kinds.specs.declared.program.Inlet.{Inlet}
 use Rattle.av_kinds.specs.declared.program.Inlet.TheVariants.{Inputs, Taps, Pipe}
-use Rattle.av_kinds.specs.declared.program.Site.{Site}
+use Rattle.av_kinds.specs.declared.program.ProgramSite.{ProgramSite}
 use Rattle.av_kinds.specs.declared.program.CellLanes.{CellLanes}
 use Rattle.av_kinds.specs.Programs.{site_count, has_number, source_by, source_in, Work, Mode, is_active, mode_at, Lane, Program, IsSource, IsInletOf, IsSite, IsModeOf, IsLaneOf, AreInTurn}
 use Rattle.av_kinds.specs.Histories.{value_by, resized, Signals, HasWord, IsDone, mode_by, task_of}
@@ -106,7 +106,7 @@ active_mode c (n ∷ modes) m is = by_test (is_active c n) refl (active_mode c m
     by_test true e later is = let same : n ≡ m = some_is n m is in record { number = 0; is_mode = is; active = subst (λ (x : Mode). is_active c x ≡ true) same e }
     by_test false e later is = let h = later is in record { number = suc h.number; is_mode = h.is_mode; active = h.active }
 
--- a mode that is active has an interval
+-- a mode that is active has a window
 some_of : {X : Type 0} (test : X → Bool) (xs : List X) → list_any test xs ≡ true → 0 < length xs
 some_of test [] h = absurd cc
 some_of test (x ∷ xs) h = omega arith
@@ -127,40 +127,40 @@ module _ (program : Program) (n : ℕ) (in_cycle : ℕ → Words)
   line_word : (c : ℕ) → c < n → (q d : ℕ) (lane : Lane) → slice_get program.lanes q ≡ Some lane → d ≤ lane.length → (b : ℕ) → b + d ≡ c → in_cycle c (line_name N q d) ≡ values b q
   line_word c lt q d lane is le b at = subst (λ i. in_cycle i (line_name N q d) ≡ values b q) at (lines q lane is d le b (omega (arith, at, lt)))
 
-  source_has : (c : ℕ) → c < n → (w : Width) (source : Source) → IsSource program w source → HasWord ports values c source (word_of (in_cycle c) (operand_of N w source))
+  source_has : (c : ℕ) → c < n → (w : Width) (source : WordSource) → IsSource program w source → HasWord ports values c source (word_of (in_cycle c) (operand_of N w source))
   source_has c lt w (Word k) is = refl
   source_has c lt w (Input k) is = refl
   source_has c lt w (Line q d) is = λ b at. line_word c lt q d is.0 is.1 is.3 b at
 
-  chosen_source : (count : ℕ) (w : Width) (otherwise : Source) (links : List Link) → AllByRecursion (λ (l : Link). (l.last < 2 ^ 12) × IsSource program w l.source) links → IsSource program w otherwise → IsSource program w (source_by count otherwise links)
+  chosen_source : (count : ℕ) (w : Width) (otherwise : WordSource) (selections : List Selection) → AllByRecursion (λ (l : Selection). (l.last < 2 ^ 12) × IsSource program w l.source) selections → IsSource program w otherwise → IsSource program w (source_by count otherwise selections)
   chosen_source count w otherwise [] each last = last
-  chosen_source count w otherwise (l ∷ links) each last = by_test (nat_le count l.last) (chosen_source count w otherwise links each.1 last)
+  chosen_source count w otherwise (l ∷ selections) each last = by_test (nat_le count l.last) (chosen_source count w otherwise selections each.1 last)
     where
-      by_test : (b : Bool) → IsSource program w (source_by count otherwise links) → IsSource program w (if b then l.source else source_by count otherwise links)
+      by_test : (b : Bool) → IsSource program w (source_by count otherwise selections) → IsSource program w (if b then l.source else source_by count otherwise selections)
       by_test true later = each.0.1
       by_test false later = later
 
-  site_has : (c : ℕ) → c < n → (count first q : ℕ) (site : Site) → IsSite program first q site → HasWord ports values c (source_in count site) (word_of (in_cycle c) (operand_of N site.width (source_in count site)))
+  site_has : (c : ℕ) → c < n → (count first q : ℕ) (site : ProgramSite) → IsSite program first q site → HasWord ports values c (source_in count site) (word_of (in_cycle c) (operand_of N site.width (source_in count site)))
   site_has c lt count first q site = by_inlet site.inlet
     where
       by_inlet : (i : Inlet) → IsInletOf program first q i site → HasWord ports values c (source_in count site) (word_of (in_cycle c) (operand_of N site.width (source_in count site)))
-      by_inlet Inputs is = source_has c lt site.width (source_in count site) (chosen_source count site.width site.otherwise site.links is.0 is.1)
-      by_inlet Taps is = source_has c lt site.width (source_in count site) (chosen_source count site.width site.otherwise site.links is.0 is.1)
+      by_inlet Inputs is = source_has c lt site.width (source_in count site) (chosen_source count site.width site.otherwise site.selections is.0 is.1)
+      by_inlet Taps is = source_has c lt site.width (source_in count site) (chosen_source count site.width site.otherwise site.selections is.0 is.1)
       by_inlet (Pipe h) is =
           let e : source_in count site ≡ Line (first + h) 0 = ap (source_by count site.otherwise) is.4 ∙ is.5 in
-          subst (λ (s : Source). HasWord ports values c s (word_of (in_cycle c) (operand_of N site.width s))) (sym e) (λ b at. line_word c lt (first + h) 0 is.0 is.1 (omega arith) b at)
+          subst (λ (s : WordSource). HasWord ports values c s (word_of (in_cycle c) (operand_of N site.width s))) (sym e) (λ b at. line_word c lt (first + h) 0 is.0 is.1 (omega arith) b at)
 
   -- ---- a work
 
-  abbrev pub words : ℕ → ℕ → List Site → ℕ → ℕ
-  words c count sites k = slice_index_or (map (λ (s : Site). word_of (in_cycle c) (operand_of N s.width (source_in count s))) sites) k 0
+  abbrev pub words : ℕ → ℕ → List ProgramSite → ℕ → ℕ
+  words c count sites k = slice_index_or (map (λ (s : ProgramSite). word_of (in_cycle c) (operand_of N s.width (source_in count s))) sites) k 0
 
-  words_have : (c : ℕ) → c < n → (count first q : ℕ) (sites : List Site) → AllByRecursion (IsSite program first q) sites → (k : ℕ) → HasWord ports values c (slice_index_or (map (source_in count) sites) k (Word 0)) (words c count sites k)
+  words_have : (c : ℕ) → c < n → (count first q : ℕ) (sites : List ProgramSite) → AllByRecursion (IsSite program first q) sites → (k : ℕ) → HasWord ports values c (slice_index_or (map (source_in count) sites) k (Word 0)) (words c count sites k)
   words_have c lt count first q [] are k = refl
   words_have c lt count first q (site ∷ sites) are zero = site_has c lt count first q site are.0
   words_have c lt count first q (site ∷ sites) are (suc k) = words_have c lt count first q sites are.1 k
 
-  words_same : (c count w : ℕ) (sites : List Site) (k : ℕ) → k < length sites → site_words N w (in_cycle c) count sites k ≡ resized (slice_index_or (map (λ (s : Site). s.width.bits) sites) k 0) w (words c count sites k)
+  words_same : (c count w : ℕ) (sites : List ProgramSite) (k : ℕ) → k < length sites → site_words N w (in_cycle c) count sites k ≡ resized (slice_index_or (map (λ (s : ProgramSite). s.width.bits) sites) k 0) w (words c count sites k)
   words_same c count w [] k lt = absurd (omega (arith, lt))
   words_same c count w (site ∷ sites) zero lt = refl
   words_same c count w (site ∷ sites) (suc k) lt = words_same c count w sites k (omega (arith, lt))
@@ -170,7 +170,7 @@ module _ (program : Program) (n : ℕ) (in_cycle : ℕ → Words)
   work_done c lt count first q w work are many is = record {
     brought = words c count work.sites;
     has = words_have c lt count first q work.sites are;
-    value = is ∙ same_value w (site_words N w (in_cycle c) count work.sites) (λ k. resized (slice_index_or (map (λ (s : Site). s.width.bits) work.sites) k 0) w (words c count work.sites k)) 0 work.tree (λ k low high. words_same c count w work.sites k (omega (arith, high, many)));
+    value = is ∙ same_value w (site_words N w (in_cycle c) count work.sites) (λ k. resized (slice_index_or (map (λ (s : ProgramSite). s.width.bits) work.sites) k 0) w (words c count work.sites k)) 0 work.tree (λ k low high. words_same c count w work.sites k (omega (arith, high, many)));
   }
 
   -- ---- a lane
@@ -179,7 +179,7 @@ module _ (program : Program) (n : ℕ) (in_cycle : ℕ → Words)
       → values c q ≡ work_value N shape.width.bits (in_cycle c) count (work_for count shape.modes lane.modes) → (m : Mode) → mode_by count lane.modes ≡ Some m → IsDone ports values c q (task_of lane.width.bits count m.work)
   lane_done c lt count first p q lane is shape suit shown m here =
       let on = active_mode count lane.modes m here in
-      let some = some_of (has_number count) m.intervals on.active in
+      let some = some_of (has_number count) m.windows on.active in
       let alone : IsAlone count lane.modes on.number = λ i u there active. is.alone count i on.number u m there on.is_mode active on.active in
       let taken : work_for count shape.modes lane.modes ≡ m.work = work_taken count shape.modes lane.modes on.number m on.is_mode on.active alone (suit.active on.number m on.is_mode some) in
       let width : shape.width.bits ≡ lane.width.bits = ap (λ (w : Width). w.bits) (sym suit.width) in
@@ -194,7 +194,7 @@ IsPlacedAt program first k [] = Unit {0}
 IsPlacedAt program first k (lane ∷ lanes) = AllByRecursion (λ (m : Mode). AllByRecursion (IsSite program first (first + k)) m.work.sites) lane.modes × IsPlacedAt program first (k + 1) lanes
 
 module _ (program : Program) (first count total : ℕ) where
-  site_piped : (k : ℕ) → k < total → (site : Site) → IsSite program first (first + k) site → IsOfPipe first total count site
+  site_piped : (k : ℕ) → k < total → (site : ProgramSite) → IsSite program first (first + k) site → IsOfPipe first total count site
   site_piped k lt site = by_inlet site.inlet
     where
       by_inlet : (i : Inlet) → IsInletOf program first (first + k) i site → OfPipe first total count i site
@@ -202,7 +202,7 @@ module _ (program : Program) (first count total : ℕ) where
       by_inlet Taps is = tt
       by_inlet (Pipe h) is = (omega (arith, is.3, lt), ap (source_by count site.otherwise) is.4 ∙ is.5)
 
-  sites_piped : (k : ℕ) → k < total → (sites : List Site) → AllByRecursion (IsSite program first (first + k)) sites → AllByRecursion (IsOfPipe first total count) sites
+  sites_piped : (k : ℕ) → k < total → (sites : List ProgramSite) → AllByRecursion (IsSite program first (first + k)) sites → AllByRecursion (IsOfPipe first total count) sites
   sites_piped k lt [] are = tt
   sites_piped k lt (site ∷ sites) are = (site_piped k lt site are.0, sites_piped k lt sites are.1)
 

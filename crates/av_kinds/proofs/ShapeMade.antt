@@ -8,7 +8,7 @@ use Rattle.av_base.proofs.Lists.{some_is, there_is, each_at, each_by_place}
 use Rattle.av_kinds.specs.declared.program.CellLanes.{CellLanes}
 use Rattle.av_kinds.specs.declared.program.Inlet.{Inlet}
 use Rattle.av_kinds.specs.declared.program.Inlet.TheVariants.{Inputs, Taps, Pipe}
-use Rattle.av_kinds.specs.declared.program.Site.{Site}
+use Rattle.av_kinds.specs.declared.program.ProgramSite.{ProgramSite}
 use Rattle.av_kinds.specs.declared.shape.SiteShape.{SiteShape}
 use Rattle.av_kinds.specs.Programs.{site_count, FitsTree, Mode, mode_at, Lane, Program, lanes_of, IsInletOf, IsSite, IsModeOf, IsLaneOf, IsProgram}
 use Rattle.av_kinds.specs.inner.Shapes.{ModeShape, LaneShape, LaneShapeMade, lane_shape_of, SuitsSite, SuitSites, SuitsMode, SuitModes, HasModeAt, SuitsLane, SuitLanes, IsInletShape, IsSiteShape, IsModeShape, IsLaneShape, IsKindShape}
@@ -21,7 +21,7 @@ use Rattle.av_kinds.proofs.TopInstances.{lane_of_cell, cell_within, suit_many, l
 
 -- ---- one lane
 
-pub suit_sites_many : (shapes : List SiteShape) (sites : List Site) → SuitSites shapes sites → length shapes ≡ length sites
+pub suit_sites_many : (shapes : List SiteShape) (sites : List ProgramSite) → SuitSites shapes sites → length shapes ≡ length sites
 suit_sites_many [] [] suit = refl
 suit_sites_many (s ∷ shapes) (site ∷ sites) suit = ap suc (suit_sites_many shapes sites suit.1)
 suit_sites_many [] (site ∷ sites) suit = absurd suit
@@ -35,7 +35,7 @@ record IsEarlier (all : List LaneShape) (k h : ℕ) (width : Width) : Type 0 whe
   before : h < k
 
 module _ (program : Program) (first q : ℕ) (all : List LaneShape) (k : ℕ) (earlier : (h : ℕ) (lane : Lane) → first + h < q → slice_get program.lanes (first + h) ≡ Some lane → IsEarlier all k h lane.width) where
-  site_is : (shape : SiteShape) (site : Site) → SuitsSite shape site → IsSite program first q site → IsSiteShape all k shape
+  site_is : (shape : SiteShape) (site : ProgramSite) → SuitsSite shape site → IsSite program first q site → IsSiteShape all k shape
   site_is shape site suit is =
       subst (λ w. IsInletShape all k w shape.inlet) suit.width (subst (λ i. IsInletShape all k site.width i) suit.inlet (by_inlet site.inlet is))
     where
@@ -44,7 +44,7 @@ module _ (program : Program) (first q : ℕ) (all : List LaneShape) (k : ℕ) (e
       by_inlet Taps h = tt
       by_inlet (Pipe h) there = let e = earlier h there.0 there.3 there.1 in (e.shape, e.there, e.same ∙ there.2, e.before)
 
-  sites_are : (shapes : List SiteShape) (sites : List Site) → SuitSites shapes sites → AllByRecursion (IsSite program first q) sites → AllByRecursion (IsSiteShape all k) shapes
+  sites_are : (shapes : List SiteShape) (sites : List ProgramSite) → SuitSites shapes sites → AllByRecursion (IsSite program first q) sites → AllByRecursion (IsSiteShape all k) shapes
   sites_are [] [] suit are = tt
   sites_are (s ∷ shapes) (site ∷ sites) suit are = (site_is s site suit.0 are.0, sites_are shapes sites suit.1 are.1)
   sites_are [] (site ∷ sites) suit are = absurd suit

@@ -9,7 +9,7 @@ use Rattle.av_base.proofs.Lists.{there_is, next_item}
 use Rattle.av_kinds.specs.declared.program.CellLanes.{CellLanes}
 use Rattle.av_base.specs.declared.width.Width.{Width}
 use Rattle.av_kinds.specs.declared.program.Inlet.{Inlet}
-use Rattle.av_kinds.specs.declared.program.Site.{Site}
+use Rattle.av_kinds.specs.declared.program.ProgramSite.{ProgramSite}
 use Rattle.av_kinds.specs.declared.shape.SiteShape.{SiteShape}
 use Rattle.av_kinds.specs.Programs.{Mode, Lane, Program, lanes_of}
 use Rattle.av_kinds.specs.Written.{ModeMade, LaneMade, mode_of, lane_of}
@@ -18,10 +18,10 @@ use Rattle.av_kinds.specs.inner.Shaped.{site_shape, site_shapes, mode_shape_by, 
 use Rattle.av_kinds.proofs.Placing.{one_less, one_more, one_seen, some_less, from_place, dropped, read_mapped}
 use Rattle.av_kinds.proofs.Steps.{not_same}
 
-abbrev pub links_of : SiteShape → ℕ
-links_of s = s.links
+abbrev pub selections_of : SiteShape → ℕ
+selections_of s = s.selections
 
-sites_more : (before : List SiteShape) (k : ℕ) (site : Site) (sites : List Site) → site_shapes (drop k before) (site ∷ sites) ≡ site_shape (get_or (map links_of before) k 0) site ∷ site_shapes (drop (suc k) before) sites
+sites_more : (before : List SiteShape) (k : ℕ) (site : ProgramSite) (sites : List ProgramSite) → site_shapes (drop k before) (site ∷ sites) ≡ site_shape (get_or (map selections_of before) k 0) site ∷ site_shapes (drop (suc k) before) sites
 sites_more [] zero site sites = refl
 sites_more [] (suc k) site sites = refl
 sites_more (s ∷ before) zero site sites = refl
@@ -40,10 +40,10 @@ lanes_more (f ∷ before) zero lane lanes = refl
 lanes_more (f ∷ before) (suc k) lane lanes = lanes_more before k lane lanes
 
 abbrev pub shape_with : Inlet → Width → ℕ → SiteShape
-shape_with inlet width links = record { inlet = inlet; width = width; links = links }
+shape_with inlet width selections = record { inlet = inlet; width = width; selections = selections }
 
-pub site_put : (before : List SiteShape) (sites : List Site) (k : ℕ) (site : Site) (shapes next whole : List SiteShape) (shape : SiteShape) → k < length sites → site ≡ get_or sites k site → shapes ++ site_shapes (drop k before) (drop k sites) ≡ whole
-    → shape ≡ site_shape (get_or (map links_of before) k 0) site → next ≡ shapes ++ shape ∷ [] → next ++ site_shapes (drop (k + 1) before) (drop (k + 1) sites) ≡ whole
+pub site_put : (before : List SiteShape) (sites : List ProgramSite) (k : ℕ) (site : ProgramSite) (shapes next whole : List SiteShape) (shape : SiteShape) → k < length sites → site ≡ get_or sites k site → shapes ++ site_shapes (drop k before) (drop k sites) ≡ whole
+    → shape ≡ site_shape (get_or (map selections_of before) k 0) site → next ≡ shapes ++ shape ∷ [] → next ++ site_shapes (drop (k + 1) before) (drop (k + 1) sites) ≡ whole
 site_put before sites k site shapes next whole shape lt is h here put =
     let rest = drop (k + 1) sites in
     one_less whole shapes next shape (site_shapes (drop k before) (drop k sites)) (site_shapes (drop (k + 1) before) rest) h put

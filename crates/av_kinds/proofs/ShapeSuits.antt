@@ -4,7 +4,7 @@ use Rattle.std.specs.Prelude.{slice_get, nat_lt, nat_eq}
 use Rattle.std.specs.List.{AllByRecursion}
 use Rattle.av_base.proofs.Lists.{some_is}
 use Rattle.av_kinds.specs.declared.program.CellLanes.{CellLanes}
-use Rattle.av_kinds.specs.declared.program.Site.{Site}
+use Rattle.av_kinds.specs.declared.program.ProgramSite.{ProgramSite}
 use Rattle.av_kinds.specs.declared.shape.SiteShape.{SiteShape}
 use Rattle.av_kinds.specs.Programs.{Mode, mode_at, Lane, Program, lanes_of, Paired, AreAlikeSites, AreAlikeModes, AreAlikeLanes}
 use Rattle.av_kinds.specs.inner.Shapes.{ModeShape, LaneShape, SuitSites, SuitsMode, SuitModes, HasModeAt, SuitsLane, SuitLanes}
@@ -36,15 +36,15 @@ second_most a b = omega arith
 
 -- ---- it has room for the cell that it was made for
 
-own_sites : (before : List SiteShape) (sites : List Site) → SuitSites (site_shapes before sites) sites
+own_sites : (before : List SiteShape) (sites : List ProgramSite) → SuitSites (site_shapes before sites) sites
 own_sites before [] = tt
-own_sites [] (site ∷ sites) = (record { inlet = refl; width = refl; room = second_most 0 (length site.links) }, own_sites [] sites)
-own_sites (s ∷ before) (site ∷ sites) = (record { inlet = refl; width = refl; room = second_most s.links (length site.links) }, own_sites before sites)
+own_sites [] (site ∷ sites) = (record { inlet = refl; width = refl; room = second_most 0 (length site.selections) }, own_sites [] sites)
+own_sites (s ∷ before) (site ∷ sites) = (record { inlet = refl; width = refl; room = second_most s.selections (length site.selections) }, own_sites before sites)
 
 own_modes : (before : List ModeShape) (k : ℕ) (modes : List Mode) → FitModes k (mode_shapes before k modes) modes
 own_modes before k [] = tt
-own_modes [] k (m ∷ modes) = (refl, record { sites = own_sites [] m.work.sites; tree = refl; room = second_most 0 (length m.intervals) }, own_modes [] (k + 1) modes)
-own_modes (f ∷ before) k (m ∷ modes) = (refl, record { sites = own_sites f.sites m.work.sites; tree = refl; room = second_most f.intervals (length m.intervals) }, own_modes before (k + 1) modes)
+own_modes [] k (m ∷ modes) = (refl, record { sites = own_sites [] m.work.sites; tree = refl; room = second_most 0 (length m.windows) }, own_modes [] (k + 1) modes)
+own_modes (f ∷ before) k (m ∷ modes) = (refl, record { sites = own_sites f.sites m.work.sites; tree = refl; room = second_most f.windows (length m.windows) }, own_modes before (k + 1) modes)
 
 own_lanes : (before : List LaneShape) (lanes : List Lane) → FitLanes (lane_shapes before lanes) lanes
 own_lanes before [] = tt
@@ -53,10 +53,10 @@ own_lanes (f ∷ before) (lane ∷ lanes) = (record { width = refl; modes = own_
 
 -- ---- and for those before it, which are like it
 
-old_sites : (before : List SiteShape) (old sites : List Site) → SuitSites before old → Paired AreAlikeSites old sites → SuitSites (site_shapes before sites) old
+old_sites : (before : List SiteShape) (old sites : List ProgramSite) → SuitSites before old → Paired AreAlikeSites old sites → SuitSites (site_shapes before sites) old
 old_sites [] [] [] suit alike = tt
 old_sites (s ∷ before) (o ∷ old) (site ∷ sites) suit alike =
-    (record { inlet = alike.0.inlet; width = alike.0.width; room = omega (arith, suit.0.room, first_most s.links (length site.links)) }, old_sites before old sites suit.1 alike.1)
+    (record { inlet = alike.0.inlet; width = alike.0.width; room = omega (arith, suit.0.room, first_most s.selections (length site.selections)) }, old_sites before old sites suit.1 alike.1)
 old_sites [] (o ∷ old) sites suit alike = absurd suit
 old_sites (s ∷ before) [] sites suit alike = absurd suit
 old_sites [] [] (site ∷ sites) suit alike = absurd alike
@@ -69,7 +69,7 @@ old_modes k (f ∷ before) (o ∷ old) (m ∷ modes) suit alike = (
   record {
     sites = old_sites f.sites o.work.sites m.work.sites suit.1.sites alike.0.sites;
     tree = alike.0.tree;
-    room = omega (arith, suit.1.room, first_most f.intervals (length m.intervals));
+    room = omega (arith, suit.1.room, first_most f.windows (length m.windows));
   },
   old_modes (k + 1) before old modes suit.2 alike.1,
 )
@@ -148,13 +148,13 @@ numbers_of modes (g ∷ shapes) each zero f is = subst (λ (x : ModeShape). x.nu
 numbers_of modes (g ∷ shapes) each (suc i) f is = numbers_of modes shapes each.1 i f is
 
 -- a mode that is active at some time is used
-used_mode : (k : ℕ) (all : List ModeShape) (modes : List Mode) → FitModes k all modes → (i : ℕ) (m : Mode) → slice_get modes i ≡ Some m → 0 < length m.intervals → (j : ℕ) → k + i ≡ j → HasModeAt j (filter is_used all)
+used_mode : (k : ℕ) (all : List ModeShape) (modes : List Mode) → FitModes k all modes → (i : ℕ) (m : Mode) → slice_get modes i ≡ Some m → 0 < length m.windows → (j : ℕ) → k + i ≡ j → HasModeAt j (filter is_used all)
 used_mode k [] [] fit i m is some j at = absurd cc
 used_mode k (f ∷ all) (n ∷ modes) fit zero m is some j at =
     let same : n ≡ m = some_is n m is in
-    let lt : 0 < f.intervals = omega (arith, subst (λ (x : Mode). length x.intervals ≤ f.intervals) same fit.1.room, some) in
+    let lt : 0 < f.windows = omega (arith, subst (λ (x : Mode). length x.windows ≤ f.windows) same fit.1.room, some) in
     let e : f.number ≡ j = omega (arith, fit.0, at) in
-    by_use (is_used f) (used_test f.intervals lt) e
+    by_use (is_used f) (used_test f.windows lt) e
   where
     used_test : (i : ℕ) → 0 < i → nat_lt 0 i ≡ true
     used_test i lt = grind arith

@@ -17,7 +17,7 @@ use Rattle.av_net.specs.declared.operation.Operation.{Operation}
 use Rattle.av_net.specs.declared.operation.Operation.TheVariants.{Plain, Binary, Signed, Choose, Part, Widen}
 use Rattle.av_net.specs.declared.netlist.Drive.{Drive}
 use Rattle.av_net.specs.Flat.{part_name, part_operand, part_operation, part_drive}
-use Rattle.av_kinds.specs.declared.gates.Gate.{Gate}
+use Rattle.av_kinds.specs.declared.gates.LaneGate.{LaneGate}
 use Rattle.av_kinds.specs.declared.choice.Guard.{Guard}
 use Rattle.av_kinds.specs.declared.choice.Guard.TheVariants.{UpTo, Within}
 use Rattle.av_kinds.specs.declared.choice.Arm.{Arm}
@@ -121,8 +121,8 @@ module _ (counter : List ℕ) (D : List Drive) (u : List ℕ) where
 
   -- ---- wires
 
-  abbrev pub AreSorted : List Gate → Type 0
-  AreSorted gates = AllByRecursion (λ (g : Gate). IsSorted g.operation) gates
+  abbrev pub AreSorted : List LaneGate → Type 0
+  AreSorted gates = AllByRecursion (λ (g : LaneGate). IsSorted g.operation) gates
 
   pub record IsBuilt (b : Built) : Type 0 where
     pub gates : AreSorted b.gates
@@ -133,20 +133,20 @@ module _ (counter : List ℕ) (D : List Drive) (u : List ℕ) where
     pub operand : IsFree b.operand
 
   -- their drives stand among those of the module
-  abbrev pub Among : Naming → ℕ → List Gate → Type 0
+  abbrev pub Among : Naming → ℕ → List LaneGate → Type 0
   Among name n [] = Unit {0}
   Among name n (g ∷ gates) = Contains D (part_drive u (record { target = name n; operation = g.operation })) × Among name (n + 1) gates
 
-  among_front : (name : Naming) (n : ℕ) (gates more : List Gate) → Among name n (gates ++ more) → Among name n gates
+  among_front : (name : Naming) (n : ℕ) (gates more : List LaneGate) → Among name n (gates ++ more) → Among name n gates
   among_front name n [] more h = tt
   among_front name n (g ∷ gates) more h = (h.0, among_front name (n + 1) gates more h.1)
 
-  among_back : (name : Naming) (n m : ℕ) (gates more : List Gate) → n + length gates ≡ m → Among name n (gates ++ more) → Among name m more
+  among_back : (name : Naming) (n m : ℕ) (gates more : List LaneGate) → n + length gates ≡ m → Among name n (gates ++ more) → Among name m more
   among_back name n m [] more e h = let f : n ≡ m = omega arith in subst (λ i. Among name i more) f h
   among_back name n m (g ∷ gates) more e h = among_back name (n + 1) m gates more (omega arith) h.1
 
   -- the wires below a root that gets one of its own
-  among_named : (name : Naming) (n : ℕ) (w : Width) (gates : List Gate) (root : Operation) → Among name n (named_by name n w gates root).gates → Among name n gates
+  among_named : (name : Naming) (n : ℕ) (w : Width) (gates : List LaneGate) (root : Operation) → Among name n (named_by name n w gates root).gates → Among name n gates
   among_named name n w gates (Plain a) h = h
   among_named name n w gates (Binary a s b) h = among_front name n gates (gate w (Binary a s b) ∷ []) h
   among_named name n w gates (Signed a s b) h = among_front name n gates (gate w (Signed a s b) ∷ []) h
@@ -168,13 +168,13 @@ module _ (counter : List ℕ) (D : List Drive) (u : List ℕ) where
   -- ---- what is built: wires are free, and the operand c is the counter where it is tested at all
 
   module _ (name : Naming) (free : (i : ℕ) → IsFree (Name (name i))) (c : Operand) (Tested : Type 0) (is_count : Tested → IsCounted counter D (part_operand u c)) where
-    join : (xs ys : List Gate) → AreSorted xs → AreSorted ys → AreSorted (xs ++ ys)
-    join xs ys p q = each_append (λ (g : Gate). IsSorted g.operation) xs ys p q
+    join : (xs ys : List LaneGate) → AreSorted xs → AreSorted ys → AreSorted (xs ++ ys)
+    join xs ys p q = each_append (λ (g : LaneGate). IsSorted g.operation) xs ys p q
 
-    last_too : (xs : List Gate) (w : Width) (o : Operation) → AreSorted xs → IsSorted o → AreSorted (xs ++ gate w o ∷ [])
+    last_too : (xs : List LaneGate) (w : Width) (o : Operation) → AreSorted xs → IsSorted o → AreSorted (xs ++ gate w o ∷ [])
     last_too xs w o p q = join xs (gate w o ∷ []) p (q, tt)
 
-    named_sorted : (n : ℕ) (w : Width) (gates : List Gate) (root : Operation) → IsBuilt (built gates root) → IsNamed (named_by name n w gates root)
+    named_sorted : (n : ℕ) (w : Width) (gates : List LaneGate) (root : Operation) → IsBuilt (built gates root) → IsNamed (named_by name n w gates root)
     named_sorted n w gates (Plain a) h = record { gates = h.gates; operand = h.root }
     named_sorted n w gates (Binary a s b) h = record { gates = last_too gates w (Binary a s b) h.gates h.root; operand = free (n + length gates) }
     named_sorted n w gates (Signed a s b) h = record { gates = last_too gates w (Signed a s b) h.gates h.root; operand = free (n + length gates) }
@@ -182,7 +182,7 @@ module _ (counter : List ℕ) (D : List Drive) (u : List ℕ) where
     named_sorted n w gates (Part x high low) h = record { gates = last_too gates w (Part x high low) h.gates h.root; operand = free (n + length gates) }
     named_sorted n w gates (Widen x by) h = record { gates = last_too gates w (Widen x by) h.gates h.root; operand = free (n + length gates) }
 
-    joined_sorted : (n : ℕ) (g : Sign) (gates : List Gate) (a b : Operand) → AreSorted gates → IsFree a → IsFree b → IsBuilt (joined name n g gates a b)
+    joined_sorted : (n : ℕ) (g : Sign) (gates : List LaneGate) (a b : Operand) → AreSorted gates → IsFree a → IsFree b → IsBuilt (joined name n g gates a b)
     joined_sorted n sign.Add gates a b h p q = record { gates = h; root = tt }
     joined_sorted n sign.Sub gates a b h p q = record { gates = h; root = tt }
     joined_sorted n sign.Mul gates a b h p q = record { gates = h; root = tt }

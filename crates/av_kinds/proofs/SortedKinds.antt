@@ -7,7 +7,7 @@ use Rattle.av_base.proofs.Lists.{each_append}
 use Rattle.av_net.specs.declared.operation.Operand.TheVariants.{Name}
 use Rattle.av_net.specs.declared.netlist.Drive.{Drive}
 use Rattle.av_net.specs.Flat.{part_name, part_drive}
-use Rattle.av_kinds.specs.declared.gates.Gate.{Gate}
+use Rattle.av_kinds.specs.declared.gates.LaneGate.{LaneGate}
 use Rattle.av_kinds.specs.declared.program.Inlet.{Inlet}
 use Rattle.av_kinds.specs.declared.program.Inlet.TheVariants.{Inputs, Taps, Pipe}
 use Rattle.av_kinds.specs.declared.shape.SiteShape.{SiteShape}
@@ -66,26 +66,26 @@ module _ (counter : List ℕ) (D : List Drive) (u : List ℕ) (free : (x : List 
 
   -- ---- places
 
-  tap_free : (at : PortCounts) (site : SiteShape) → (0 < site.links → Tested) → IsFreeTap counter D u Tested (tap_of at site)
+  tap_free : (at : PortCounts) (site : SiteShape) → (0 < site.selections → Tested) → IsFreeTap counter D u Tested (tap_of at site)
   tap_free at site tested = by_inlet site.inlet
     where
-      by_inlet : (i : Inlet) → IsFreeTap counter D u Tested (tap_in at i site.width site.links)
-      by_inlet Inputs = record { otherwise = last_free input_name input_free at.inputs site.links; arms = λ lt. tested (options_many input_name at.inputs at.bounds site.links lt) }
-      by_inlet Taps = record { otherwise = last_free tap_name tap_letter_free at.taps site.links; arms = λ lt. tested (options_many tap_name at.taps at.bounds site.links lt) }
+      by_inlet : (i : Inlet) → IsFreeTap counter D u Tested (tap_in at i site.width site.selections)
+      by_inlet Inputs = record { otherwise = last_free input_name input_free at.inputs site.selections; arms = λ lt. tested (options_many input_name at.inputs at.bounds site.selections lt) }
+      by_inlet Taps = record { otherwise = last_free tap_name tap_letter_free at.taps site.selections; arms = λ lt. tested (options_many tap_name at.taps at.bounds site.selections lt) }
       by_inlet (Pipe h) = record { otherwise = pipe_free h; arms = λ lt. absurd (omega (arith, lt)) }
 
   abbrev AreTested : List SiteShape → Type 0
-  AreTested sites = AllByRecursion (λ (s : SiteShape). 0 < s.links → Tested) sites
+  AreTested sites = AllByRecursion (λ (s : SiteShape). 0 < s.selections → Tested) sites
 
   taps_free : (at : PortCounts) (sites : List SiteShape) → AreTested sites → AllByRecursion (IsFreeTap counter D u Tested) (taps_of at sites)
   taps_free at [] tested = tt
   taps_free at (s ∷ sites) tested = (tap_free at s tested.0, taps_free (past_site at s) sites tested.1)
 
-  sites_tested : (sites : List SiteShape) → (list_any (λ (s : SiteShape). nat_lt 0 s.links) sites ≡ true → Tested) → AreTested sites
+  sites_tested : (sites : List SiteShape) → (list_any (λ (s : SiteShape). nat_lt 0 s.selections) sites ≡ true → Tested) → AreTested sites
   sites_tested [] tested = tt
   sites_tested (s ∷ sites) tested = (
-    λ lt. tested (or_first (nat_lt 0 s.links) (list_any (λ (x : SiteShape). nat_lt 0 x.links) sites) (some_test s.links lt)),
-    sites_tested sites (λ e. tested (or_second (nat_lt 0 s.links) (list_any (λ (x : SiteShape). nat_lt 0 x.links) sites) e)),
+    λ lt. tested (or_first (nat_lt 0 s.selections) (list_any (λ (x : SiteShape). nat_lt 0 x.selections) sites) (some_test s.selections lt)),
+    sites_tested sites (λ e. tested (or_second (nat_lt 0 s.selections) (list_any (λ (x : SiteShape). nat_lt 0 x.selections) sites) e)),
   )
 
   all_tested : (sites : List SiteShape) → Tested → AreTested sites
@@ -114,11 +114,11 @@ module _ (counter : List ℕ) (D : List Drive) (u : List ℕ) (free : (x : List 
 
   -- ---- drives
 
-  gates_sorted : (name : Naming) (n : ℕ) (gates : List Gate) → AreSorted counter D u gates → AllByRecursion (λ (d : Drive). IsSorted counter D u d.operation) (drives_from name n gates)
+  gates_sorted : (name : Naming) (n : ℕ) (gates : List LaneGate) → AreSorted counter D u gates → AllByRecursion (λ (d : Drive). IsSorted counter D u d.operation) (drives_from name n gates)
   gates_sorted name n [] h = tt
   gates_sorted name n (g ∷ gates) h = (h.0, gates_sorted name (n + 1) gates h.1)
 
-  among_by : (name : Naming) (n : ℕ) (gates : List Gate) → ((d : Drive) → Contains (drives_from name n gates) d → Contains D (part_drive u d)) → Among counter D u name n gates
+  among_by : (name : Naming) (n : ℕ) (gates : List LaneGate) → ((d : Drive) → Contains (drives_from name n gates) d → Contains D (part_drive u d)) → Among counter D u name n gates
   among_by name n [] h = tt
   among_by name n (g ∷ gates) h = (h (record { target = name n; operation = g.operation }) (0, omega arith, refl), among_by name (n + 1) gates (λ d at. h d (suc at.0, (let lt = at.1 in omega (arith, lt)), at.2)))
 

@@ -19,10 +19,10 @@ use Rattle.av_kinds.specs.declared.counter.Counter.{Counter}
 use Rattle.av_kinds.specs.declared.program.CellLanes.{CellLanes}
 use Rattle.av_kinds.specs.declared.program.Inlet.{Inlet}
 use Rattle.av_kinds.specs.declared.program.Inlet.TheVariants.{Inputs, Taps, Pipe}
-use Rattle.av_kinds.specs.declared.program.Link.{Link}
-use Rattle.av_kinds.specs.declared.program.Site.{Site}
-use Rattle.av_kinds.specs.declared.program.Source.{Source}
-use Rattle.av_kinds.specs.declared.program.Source.TheVariants.{Word, Input, Line}
+use Rattle.av_kinds.specs.declared.program.Selection.{Selection}
+use Rattle.av_kinds.specs.declared.program.ProgramSite.{ProgramSite}
+use Rattle.av_kinds.specs.declared.program.WordSource.{WordSource}
+use Rattle.av_kinds.specs.declared.program.WordSource.TheVariants.{Word, Input, Line}
 use Rattle.av_kinds.specs.Programs.{Mode, mode_at, no_mode, Lane, Program, lanes_of, AreInTurn, IsSource, IsInletOf, IsSite, IsModeOf, IsLaneOf, IsProgram}
 use Rattle.av_kinds.specs.Names.{Labels, input_name, labels}
 use Rattle.av_kinds.specs.Counters.{counter_width, counter_name}
@@ -192,21 +192,21 @@ module _ (counter : Counter) (program : Program) (is : IsProgram program) (shape
     pub count : list_any counts shapes ≡ true → IsFeed given W (Name (counter_name counter)) counter_width.bits
 
   module _ (given : List (List ℕ)) (W : Widths) (has : HasNames given W) where
-    source_feed : (w : Width) (source : Source) → IsSource program w source → IsSourceFeed given W names w source
+    source_feed : (w : Width) (source : WordSource) → IsSource program w source → IsSourceFeed given W names w source
     source_feed w (Word n) h = record { known = tt; wide = refl; fits = h }
     source_feed w (Input k) h = has.input k w h
     source_feed w (Line q zero) h = absurd (omega (arith, h.4))
     source_feed w (Line q (suc d)) h = subst (λ (u : Width). IsFeed given W (Name (names.register q d)) u.bits) h.2 (has.register q d h.0 h.1 (omega (arith, h.3)))
 
-    inlet_feeds : (first q : ℕ) (i : Inlet) (site : Site) → IsInletOf program first q i site → InletFeeds given W names i site.width site
+    inlet_feeds : (first q : ℕ) (i : Inlet) (site : ProgramSite) → IsInletOf program first q i site → InletFeeds given W names i site.width site
     inlet_feeds first q Inputs site h = (
-      each_weaker (λ (l : Link). (l.last < 2 ^ 12) × IsSource program site.width l.source) (λ (l : Link). IsSourceFeed given W names site.width l.source) (λ l x. source_feed site.width l.source x.1) site.links h.0,
-      each_weaker (λ (l : Link). (l.last < 2 ^ 12) × IsSource program site.width l.source) (λ (l : Link). l.last < 2 ^ 12) (λ l x. x.0) site.links h.0,
+      each_weaker (λ (l : Selection). (l.last < 2 ^ 12) × IsSource program site.width l.source) (λ (l : Selection). IsSourceFeed given W names site.width l.source) (λ l x. source_feed site.width l.source x.1) site.selections h.0,
+      each_weaker (λ (l : Selection). (l.last < 2 ^ 12) × IsSource program site.width l.source) (λ (l : Selection). l.last < 2 ^ 12) (λ l x. x.0) site.selections h.0,
       source_feed site.width site.otherwise h.1,
     )
     inlet_feeds first q Taps site h = (
-      each_weaker (λ (l : Link). (l.last < 2 ^ 12) × IsSource program site.width l.source) (λ (l : Link). IsSourceFeed given W names site.width l.source) (λ l x. source_feed site.width l.source x.1) site.links h.0,
-      each_weaker (λ (l : Link). (l.last < 2 ^ 12) × IsSource program site.width l.source) (λ (l : Link). l.last < 2 ^ 12) (λ l x. x.0) site.links h.0,
+      each_weaker (λ (l : Selection). (l.last < 2 ^ 12) × IsSource program site.width l.source) (λ (l : Selection). IsSourceFeed given W names site.width l.source) (λ l x. source_feed site.width l.source x.1) site.selections h.0,
+      each_weaker (λ (l : Selection). (l.last < 2 ^ 12) × IsSource program site.width l.source) (λ (l : Selection). l.last < 2 ^ 12) (λ l x. x.0) site.selections h.0,
       source_feed site.width site.otherwise h.1,
     )
     inlet_feeds first q (Pipe n) site h = tt
@@ -214,11 +214,11 @@ module _ (counter : Counter) (program : Program) (is : IsProgram program) (shape
     mode_feeds : (first q w : ℕ) (m : Mode) → IsModeOf program first q w m → ModeFeeds given W names m
     mode_feeds first q w m h = record {
       sites = each_weaker (IsSite program first q) (SiteFeeds given W names) (λ site x. inlet_feeds first q site.inlet site x) m.work.sites h.sites;
-      intervals = h.intervals;
+      windows = h.windows;
     }
 
     no_feeds : ModeFeeds given W names no_mode
-    no_feeds = record { sites = tt; intervals = tt }
+    no_feeds = record { sites = tt; windows = tt }
 
     lane_feeds : (first p q : ℕ) (lane : Lane) → IsLaneOf program first p q lane → ModesFeed given W names lane.modes
     lane_feeds first p q lane h k = at_mode (ModeFeeds given W names) no_feeds lane.modes (each_weaker (IsModeOf program first q lane.width.bits) (ModeFeeds given W names) (mode_feeds first q lane.width.bits) lane.modes h.modes) k

@@ -18,7 +18,7 @@ use Rattle.av_kinds.specs.inner.Shapes.{ModeShape, LaneShape}
 use Rattle.av_kinds.specs.inner.Interfaces.{PortCounts, tap_in, tap_of, past_site, taps_of, datapaths_of, past_modes, options_by}
 use Rattle.av_kinds.specs.inner.Kinds.{selects, lane_counts, counts, lane_built, lanes_wires, lanes_drives}
 
--- a place without links
+-- a place without selections
 fit_same : (name : Naming) (w : Width) (a b : Operand) (n : ℕ) (tap : Tap) → tap.arms ≡ [] → fit_built name w a n tap ≡ fit_built name w b n tap
 fit_same name w a b n tap none = rw none refl
 
@@ -26,35 +26,35 @@ none_there : (n : ℕ) → nat_lt 0 n ≡ false → n ≡ 0
 none_there zero h = refl
 none_there (suc n) h = absurd (grind arith)
 
-no_options : (at : PortCounts) (shape : SiteShape) → nat_lt 0 shape.links ≡ false → (tap_of at shape).arms ≡ []
-no_options at shape h = by_inlet shape.inlet (none_there shape.links h)
+no_options : (at : PortCounts) (shape : SiteShape) → nat_lt 0 shape.selections ≡ false → (tap_of at shape).arms ≡ []
+no_options at shape h = by_inlet shape.inlet (none_there shape.selections h)
   where
-    by_inlet : (i : Inlet) → shape.links ≡ 0 → (tap_in at i shape.width shape.links).arms ≡ []
+    by_inlet : (i : Inlet) → shape.selections ≡ 0 → (tap_in at i shape.width shape.selections).arms ≡ []
     by_inlet Inputs e = ap (λ n. options_by input_name at.inputs at.bounds n) e
     by_inlet Taps e = ap (λ n. options_by tap_name at.taps at.bounds n) e
     by_inlet (Pipe h) e = refl
 
-taps_same : (name : Naming) (w : Width) (a b : Operand) (n : ℕ) (at : PortCounts) (sites : List SiteShape) → list_any (λ (site : SiteShape). nat_lt 0 site.links) sites ≡ false → taps_built name w a n (taps_of at sites) ≡ taps_built name w b n (taps_of at sites)
+taps_same : (name : Naming) (w : Width) (a b : Operand) (n : ℕ) (at : PortCounts) (sites : List SiteShape) → list_any (λ (site : SiteShape). nat_lt 0 site.selections) sites ≡ false → taps_built name w a n (taps_of at sites) ≡ taps_built name w b n (taps_of at sites)
 taps_same name w a b n at [] h = refl
 taps_same name w a b n at (site ∷ sites) h =
-    let two = neither (nat_lt 0 site.links) (list_any (λ (x : SiteShape). nat_lt 0 x.links) sites) h in
+    let two = neither (nat_lt 0 site.selections) (list_any (λ (x : SiteShape). nat_lt 0 x.selections) sites) h in
     let e = fit_same name w a b n (tap_of at site) (no_options at site two.0) in
     let m = n + length (named name n w (fit_built name w b n (tap_of at site))).gates in
     let f = taps_same name w a b m (past_site at site) sites two.1 in
     rw (e, f) refl
 
-piece_same : (name : Naming) (w : Width) (a b : Operand) (n : ℕ) (at : PortCounts) (sites : List SiteShape) (tree : Tree) → list_any (λ (site : SiteShape). nat_lt 0 site.links) sites ≡ false
+piece_same : (name : Naming) (w : Width) (a b : Operand) (n : ℕ) (at : PortCounts) (sites : List SiteShape) (tree : Tree) → list_any (λ (site : SiteShape). nat_lt 0 site.selections) sites ≡ false
     → piece_built name w a n (taps_of at sites) tree ≡ piece_built name w b n (taps_of at sites) tree
 piece_same name w a b n at sites (reference place m) h = place_same sites h
   where
-    place_same : (sites : List SiteShape) → list_any (λ (site : SiteShape). nat_lt 0 site.links) sites ≡ false → place_built name w a n (taps_of at sites) ≡ place_built name w b n (taps_of at sites)
+    place_same : (sites : List SiteShape) → list_any (λ (site : SiteShape). nat_lt 0 site.selections) sites ≡ false → place_built name w a n (taps_of at sites) ≡ place_built name w b n (taps_of at sites)
     place_same [] h = refl
-    place_same (site ∷ sites) h = fit_same name w a b n (tap_of at site) (no_options at site (neither (nat_lt 0 site.links) (list_any (λ (x : SiteShape). nat_lt 0 x.links) sites) h).0)
+    place_same (site ∷ sites) h = fit_same name w a b n (tap_of at site) (no_options at site (neither (nat_lt 0 site.selections) (list_any (λ (x : SiteShape). nat_lt 0 x.selections) sites) h).0)
 piece_same name w a b n at sites (pick place choices k) h = place_same sites h
   where
-    place_same : (sites : List SiteShape) → list_any (λ (site : SiteShape). nat_lt 0 site.links) sites ≡ false → place_built name w a n (taps_of at sites) ≡ place_built name w b n (taps_of at sites)
+    place_same : (sites : List SiteShape) → list_any (λ (site : SiteShape). nat_lt 0 site.selections) sites ≡ false → place_built name w a n (taps_of at sites) ≡ place_built name w b n (taps_of at sites)
     place_same [] h = refl
-    place_same (site ∷ sites) h = fit_same name w a b n (tap_of at site) (no_options at site (neither (nat_lt 0 site.links) (list_any (λ (x : SiteShape). nat_lt 0 x.links) sites) h).0)
+    place_same (site ∷ sites) h = fit_same name w a b n (tap_of at site) (no_options at site (neither (nat_lt 0 site.selections) (list_any (λ (x : SiteShape). nat_lt 0 x.selections) sites) h).0)
 piece_same name w a b n at sites tree h = ap (λ (t : Taken). over_taps name w n t tree) (taps_same name w a b n at sites h)
 
 lane_same : (a b : Operand) (at : PortCounts) (n : ℕ) (lane : LaneShape) → lane_counts lane ≡ false → lane_built a at n lane ≡ lane_built b at n lane

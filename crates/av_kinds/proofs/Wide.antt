@@ -10,7 +10,7 @@ use Rattle.av_kinds.specs.declared.program.Inlet.TheVariants.{Inputs, Taps, Pipe
 use Rattle.av_kinds.specs.Names.{Naming, input_name, tap_name, pipe_name}
 use Rattle.av_kinds.specs.declared.shape.SiteShape.{SiteShape}
 use Rattle.av_kinds.specs.inner.Shapes.{ModeShape}
-use Rattle.av_kinds.specs.inner.Interfaces.{PortCounts, ports_by, bounds_by, options_by, last_by, ports_in, past_site, site_ports, tap_in, tap_of, sites_ports, past_sites, taps_of, guards_by, interval_ports, tested_ports, past_tested, modes_ports, tested_of, last_of, datapaths_of}
+use Rattle.av_kinds.specs.inner.Interfaces.{PortCounts, ports_by, bounds_by, options_by, last_by, ports_in, past_site, site_ports, tap_in, tap_of, sites_ports, past_sites, taps_of, guards_by, window_ports, tested_ports, past_tested, modes_ports, tested_of, last_of, datapaths_of}
 use Rattle.av_kinds.proofs.Choices.{FitOptions, IsNamed, FitsTap}
 use Rattle.av_kinds.proofs.Cells.{FitTaps, FitGuards, FitModes, FitDatapaths}
 
@@ -47,15 +47,15 @@ last_named name k (suc n) = last_named name (k + 1) n
 site_fits : (widths : Widths) (at : PortCounts) (shape : SiteShape) → IsPipeWide widths shape → AllByRecursion (IsWide widths) (site_ports at shape) → FitsTap widths 12 (tap_of at shape)
 site_fits widths at shape = by_inlet shape.inlet
   where
-    by_inlet : (i : Inlet) → PipeWide widths shape.width i → AllByRecursion (IsWide widths) (ports_in at i shape.width shape.links) → FitsTap widths 12 (tap_in at i shape.width shape.links)
+    by_inlet : (i : Inlet) → PipeWide widths shape.width i → AllByRecursion (IsWide widths) (ports_in at i shape.width shape.selections) → FitsTap widths 12 (tap_in at i shape.width shape.selections)
     by_inlet Inputs pipe wide =
-        let words = each_first (IsWide widths) (ports_by input_name shape.width at.inputs (suc shape.links)) (bounds_by at.bounds shape.links) wide in
-        let bounds = each_second (IsWide widths) (ports_by input_name shape.width at.inputs (suc shape.links)) (bounds_by at.bounds shape.links) wide in
-        record { arms = options_fit widths input_name shape.width at.inputs at.bounds shape.links words bounds; otherwise = last_fits widths input_name shape.width at.inputs shape.links words; named = last_named input_name at.inputs shape.links }
+        let words = each_first (IsWide widths) (ports_by input_name shape.width at.inputs (suc shape.selections)) (bounds_by at.bounds shape.selections) wide in
+        let bounds = each_second (IsWide widths) (ports_by input_name shape.width at.inputs (suc shape.selections)) (bounds_by at.bounds shape.selections) wide in
+        record { arms = options_fit widths input_name shape.width at.inputs at.bounds shape.selections words bounds; otherwise = last_fits widths input_name shape.width at.inputs shape.selections words; named = last_named input_name at.inputs shape.selections }
     by_inlet Taps pipe wide =
-        let words = each_first (IsWide widths) (ports_by tap_name shape.width at.taps (suc shape.links)) (bounds_by at.bounds shape.links) wide in
-        let bounds = each_second (IsWide widths) (ports_by tap_name shape.width at.taps (suc shape.links)) (bounds_by at.bounds shape.links) wide in
-        record { arms = options_fit widths tap_name shape.width at.taps at.bounds shape.links words bounds; otherwise = last_fits widths tap_name shape.width at.taps shape.links words; named = last_named tap_name at.taps shape.links }
+        let words = each_first (IsWide widths) (ports_by tap_name shape.width at.taps (suc shape.selections)) (bounds_by at.bounds shape.selections) wide in
+        let bounds = each_second (IsWide widths) (ports_by tap_name shape.width at.taps (suc shape.selections)) (bounds_by at.bounds shape.selections) wide in
+        record { arms = options_fit widths tap_name shape.width at.taps at.bounds shape.selections words bounds; otherwise = last_fits widths tap_name shape.width at.taps shape.selections words; named = last_named tap_name at.taps shape.selections }
     by_inlet (Pipe h) pipe wide = record { arms = tt; otherwise = pipe; named = tt }
 
 sites_fit : (widths : Widths) (at : PortCounts) (shapes : List SiteShape) → AllByRecursion (IsPipeWide widths) shapes → AllByRecursion (IsWide widths) (sites_ports at shapes) → FitTaps widths 12 (taps_of at shapes)
@@ -67,7 +67,7 @@ sites_fit widths at (shape ∷ shapes) pipes wide = (
 
 -- ---- a lane
 
-guards_fit : (widths : Widths) (b n : ℕ) → AllByRecursion (IsWide widths) (interval_ports b n) → FitGuards widths 12 (guards_by b n)
+guards_fit : (widths : Widths) (b n : ℕ) → AllByRecursion (IsWide widths) (window_ports b n) → FitGuards widths 12 (guards_by b n)
 guards_fit widths b zero wide = tt
 guards_fit widths b (suc n) wide = ((wide.0, wide.1.0), guards_fit widths (b + 2) n wide.1.1)
 
@@ -76,9 +76,9 @@ tested_fit widths at [] pipes wide = tt
 tested_fit widths at (f ∷ []) pipes wide = tt
 tested_fit widths at (f ∷ g ∷ shapes) pipes wide =
     let W = IsWide widths in
-    let bounds = interval_ports (past_sites at f.sites).bounds f.intervals in
+    let bounds = window_ports (past_sites at f.sites).bounds f.windows in
     let here = each_first W (tested_ports at f) (modes_ports (past_tested at f) (g ∷ shapes)) wide in (
-      guards_fit widths (past_sites at f.sites).bounds f.intervals (each_second W (sites_ports at f.sites) bounds here),
+      guards_fit widths (past_sites at f.sites).bounds f.windows (each_second W (sites_ports at f.sites) bounds here),
       sites_fit widths at f.sites pipes.0 (each_first W (sites_ports at f.sites) bounds here),
       tested_fit widths (past_tested at f) (g ∷ shapes) pipes.1 (each_second W (tested_ports at f) (modes_ports (past_tested at f) (g ∷ shapes)) wide),
     )

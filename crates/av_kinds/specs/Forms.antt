@@ -19,10 +19,10 @@ use Rattle.av_net.specs.Flat.{flat_module}
 use Rattle.av_kinds.specs.declared.counter.Counter.{Counter}
 use Rattle.av_kinds.specs.declared.counter.Counter.TheVariants.{Cycles, Phases}
 use Rattle.av_kinds.specs.declared.planning.Modules.{Modules}
-use Rattle.av_kinds.specs.declared.program.Source.{Source}
-use Rattle.av_kinds.specs.declared.program.Source.TheVariants.{Input, Line}
-use Rattle.av_kinds.specs.declared.program.Link.{Link}
-use Rattle.av_kinds.specs.declared.program.Site.{Site}
+use Rattle.av_kinds.specs.declared.program.WordSource.{WordSource}
+use Rattle.av_kinds.specs.declared.program.WordSource.TheVariants.{Input, Line}
+use Rattle.av_kinds.specs.declared.program.Selection.{Selection}
+use Rattle.av_kinds.specs.declared.program.ProgramSite.{ProgramSite}
 use Rattle.av_kinds.specs.declared.program.CellLanes.{CellLanes}
 use Rattle.av_kinds.specs.Programs.{Mode, Lane, Program, lanes_of}
 use Rattle.av_kinds.specs.Names.{input_name, output_name, value_name, wire_name, register_name, instance_name, labels}
@@ -47,11 +47,11 @@ IsRegister p name = (n : ℕ) × (name ≡ register_name p n)
 -- ---- what is read
 
 -- the place takes its word from this source at some number
-abbrev pub IsSourceOf : Site → Source → Type 0
-IsSourceOf site source = (source ≡ site.otherwise) ⊎ ((i : ℕ) × (l : Link) × (slice_get site.links i ≡ Some l) × (source ≡ l.source))
+abbrev pub IsSourceOf : ProgramSite → WordSource → Type 0
+IsSourceOf site source = (source ≡ site.otherwise) ⊎ ((i : ℕ) × (l : Selection) × (slice_get site.selections i ≡ Some l) × (source ≡ l.source))
 
 -- a place of a lane of the cell p does
-pub record Takes (program : Program) (p : ℕ) (source : Source) : Type 0 where
+pub record Takes (program : Program) (p : ℕ) (source : WordSource) : Type 0 where
   pub lane_number : ℕ
   pub lane : Lane
   pub is_lane : slice_get program.lanes lane_number ≡ Some lane
@@ -60,7 +60,7 @@ pub record Takes (program : Program) (p : ℕ) (source : Source) : Type 0 where
   pub mode : Mode
   pub is_mode : slice_get lane.modes mode_number ≡ Some mode
   pub site_number : ℕ
-  pub site : Site
+  pub site : ProgramSite
   pub is_site : slice_get mode.work.sites site_number ≡ Some site
   pub is_source : IsSourceOf site source
 

@@ -5,9 +5,9 @@ use Rattle.std.specs.Prelude.{◌≡◌, ℕ, ◌+◌, ◌-◌, ◌%◌, ◌^◌
 use Rattle.av_tree.specs.Values.{combined, words_compare}
 use Rattle.av_net.specs.Meaning.{widened}
 use Rattle.av_flat.specs.Trees.{Tree, reference, constant, binary, choice, pick}
-use Rattle.av_kinds.specs.declared.program.Source.{Source}
-use Rattle.av_kinds.specs.declared.program.Source.TheVariants.{Word, Input, Line}
-use Rattle.av_kinds.specs.declared.program.Site.{Site}
+use Rattle.av_kinds.specs.declared.program.WordSource.{WordSource}
+use Rattle.av_kinds.specs.declared.program.WordSource.TheVariants.{Word, Input, Line}
+use Rattle.av_kinds.specs.declared.program.ProgramSite.{ProgramSite}
 use Rattle.av_kinds.specs.Programs.{site_count, source_in, Work, Mode, is_active, Lane, Program}
 
 -- ---- words
@@ -37,7 +37,7 @@ resized from to a = if nat_eq from to then a else fitted from to a
 pub record Task : Type 0 where
   pub width : ℕ
   pub tree : Tree
-  pub sources : ℕ → Source
+  pub sources : ℕ → WordSource
   pub widths : ℕ → ℕ
 
 -- what each lane does at each number of the counter, where it is told
@@ -51,7 +51,7 @@ abbrev pub Signals : Type 0
 Signals = ℕ → ℕ → ℕ
 
 -- in cycle c the source has this word; the line of a lane may have any word before the lane's first one comes out
-abbrev pub HasWord : Signals → Signals → ℕ → Source → ℕ → Type 0
+abbrev pub HasWord : Signals → Signals → ℕ → WordSource → ℕ → Type 0
 HasWord ports lanes c (Word n) a = a ≡ n
 HasWord ports lanes c (Input k) a = a ≡ ports c k
 HasWord ports lanes c (Line q d) a = (b : ℕ) → b + d ≡ c → a ≡ lanes b q
@@ -78,7 +78,7 @@ task_of w c work = record {
   width = w;
   tree = work.tree;
   sources = λ k. slice_index_or (map (source_in c) work.sites) k (Word 0);
-  widths = λ k. slice_index_or (map (λ (s : Site). s.width.bits) work.sites) k 0;
+  widths = λ k. slice_index_or (map (λ (s : ProgramSite). s.width.bits) work.sites) k 0;
 }
 
 abbrev pub task_in : ℕ → ℕ → Option Mode → Option Task

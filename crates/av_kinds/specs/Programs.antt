@@ -5,28 +5,28 @@ use Rattle.std.specs.List.{list_any, AllByRecursion}
 use Rattle.av_base.specs.Words.{IsWord}
 use Rattle.av_base.specs.declared.width.Width.{Width}
 use Rattle.av_flat.specs.Trees.{Tree, reference, constant, binary, choice, pick}
-use Rattle.av_kinds.specs.declared.program.Source.{Source}
-use Rattle.av_kinds.specs.declared.program.Source.TheVariants.{Word, Input, Line}
-use Rattle.av_kinds.specs.declared.program.Interval.{Interval}
-use Rattle.av_kinds.specs.declared.program.Link.{Link}
+use Rattle.av_kinds.specs.declared.program.WordSource.{WordSource}
+use Rattle.av_kinds.specs.declared.program.WordSource.TheVariants.{Word, Input, Line}
+use Rattle.av_kinds.specs.declared.program.Window.{Window}
+use Rattle.av_kinds.specs.declared.program.Selection.{Selection}
 use Rattle.av_kinds.specs.declared.program.Inlet.{Inlet}
 use Rattle.av_kinds.specs.declared.program.Inlet.TheVariants.{Inputs, Taps, Pipe}
-use Rattle.av_kinds.specs.declared.program.Site.{Site}
+use Rattle.av_kinds.specs.declared.program.ProgramSite.{ProgramSite}
 use Rattle.av_kinds.specs.declared.program.CellLanes.{CellLanes}
 
 -- ---- places that read
 
--- whether the number of the counter is in the interval
-abbrev pub has_number : ℕ → Interval → Bool
+-- whether the number of the counter is in the window
+abbrev pub has_number : ℕ → Window → Bool
 has_number c i = nat_le i.first c && nat_le c i.last
 
-abbrev pub source_by : ℕ → Source → List Link → Source
+abbrev pub source_by : ℕ → WordSource → List Selection → WordSource
 source_by c otherwise [] = otherwise
-source_by c otherwise (l ∷ links) = if nat_le c l.last then l.source else source_by c otherwise links
+source_by c otherwise (l ∷ selections) = if nat_le c l.last then l.source else source_by c otherwise selections
 
 -- what brings the word of a place at a number of the counter
-abbrev pub source_in : ℕ → Site → Source
-source_in c site = source_by c site.otherwise site.links
+abbrev pub source_in : ℕ → ProgramSite → WordSource
+source_in c site = source_by c site.otherwise site.selections
 
 -- how many places of a plain tree read
 abbrev pub site_count : Tree → ℕ
@@ -41,17 +41,17 @@ site_count _ = 0
 
 -- a tree, and what brings the word of each place that reads
 pub record Work : Type 0 where
-  pub sites : List Site
+  pub sites : List ProgramSite
   pub tree : Tree
 
--- in these intervals, this work
+-- in these windows, this work
 pub record Mode : Type 0 where
-  pub intervals : List Interval
+  pub windows : List Window
   pub work : Work
 
--- whether the number of the counter is in one of its intervals
+-- whether the number of the counter is in one of its windows
 abbrev pub is_active : ℕ → Mode → Bool
-is_active c m = list_any (has_number c) m.intervals
+is_active c m = list_any (has_number c) m.windows
 
 -- a lane of a cell: what it works on in each mode, and the greatest delay at which it is read. The lane of rank 0 has the cell's value, the
 -- others have its pipelines.
@@ -64,7 +64,7 @@ pub record Lane : Type 0 where
 
 -- the mode of this number; without it, one that is never active
 abbrev pub no_mode : Mode
-no_mode = record { intervals = []; work = record { sites = []; tree = constant 0 } }
+no_mode = record { windows = []; work = record { sites = []; tree = constant 0 } }
 
 abbrev pub mode_at : List Mode → ℕ → Mode
 mode_at modes k = slice_index_or modes k no_mode
@@ -88,20 +88,20 @@ lanes_of program own = take (suc (own.value - own.first)) (drop own.first progra
 -- ---- what holds of each program
 
 -- the source has words of the width: a number of it, an input port, or a lane in an earlier cycle, whose line is long enough
-abbrev pub IsSource : Program → Width → Source → Type 0
+abbrev pub IsSource : Program → Width → WordSource → Type 0
 IsSource program w (Word n) = IsWord w.bits n
 IsSource program w (Input k) = slice_get program.inputs k ≡ Some w
 IsSource program w (Line q d) = (lane : Lane) × (slice_get program.lanes q ≡ Some lane) × (lane.width ≡ w) × (d ≤ lane.length) × (0 < d)
 
 -- a place of the lane q, of the cell whose lanes have numbers from `first` on: sources of its width up to numbers of 12 bits, or an earlier lane of the
 -- cell in the same cycle
-abbrev pub IsInletOf : Program → ℕ → ℕ → Inlet → Site → Type 0
-IsInletOf program first q Inputs site = AllByRecursion (λ (l : Link). (l.last < 2 ^ 12) × IsSource program site.width l.source) site.links × IsSource program site.width site.otherwise
-IsInletOf program first q Taps site = AllByRecursion (λ (l : Link). (l.last < 2 ^ 12) × IsSource program site.width l.source) site.links × IsSource program site.width site.otherwise
+abbrev pub IsInletOf : Program → ℕ → ℕ → Inlet → ProgramSite → Type 0
+IsInletOf program first q Inputs site = AllByRecursion (λ (l : Selection). (l.last < 2 ^ 12) × IsSource program site.width l.source) site.selections × IsSource program site.width site.otherwise
+IsInletOf program first q Taps site = AllByRecursion (λ (l : Selection). (l.last < 2 ^ 12) × IsSource program site.width l.source) site.selections × IsSource program site.width site.otherwise
 IsInletOf program first q (Pipe h) site =
-    (lane : Lane) × (slice_get program.lanes (first + h) ≡ Some lane) × (lane.width ≡ site.width) × (first + h < q) × (site.links ≡ []) × (site.otherwise ≡ Line (first + h) 0)
+    (lane : Lane) × (slice_get program.lanes (first + h) ≡ Some lane) × (lane.width ≡ site.width) × (first + h < q) × (site.selections ≡ []) × (site.otherwise ≡ Line (first + h) 0)
 
-abbrev pub IsSite : Program → ℕ → ℕ → Site → Type 0
+abbrev pub IsSite : Program → ℕ → ℕ → ProgramSite → Type 0
 IsSite program first q site = IsInletOf program first q site.inlet site
 
 -- the numbers of a tree are words
@@ -111,12 +111,12 @@ FitsTree w (binary g l r) = FitsTree w l × FitsTree w r
 FitsTree w (choice l c r x y) = FitsTree w l × FitsTree w r × FitsTree w x × FitsTree w y
 FitsTree w _ = Unit {0}
 
--- a mode of the lane q, whose words have so many bits: a site for each place of its tree that reads, and intervals of numbers of 12 bits
+-- a mode of the lane q, whose words have so many bits: a site for each place of its tree that reads, and windows of numbers of 12 bits
 pub record IsModeOf (program : Program) (first q w : ℕ) (m : Mode) : Type 0 where
   pub tree : FitsTree w m.work.tree
   pub many : length m.work.sites ≡ site_count m.work.tree
   pub sites : AllByRecursion (IsSite program first q) m.work.sites
-  pub intervals : AllByRecursion (λ (i : Interval). (i.first < 2 ^ 12) × (i.last < 2 ^ 12)) m.intervals
+  pub windows : AllByRecursion (λ (i : Window). (i.first < 2 ^ 12) × (i.last < 2 ^ 12)) m.windows
 
 -- the lane q of the cell p
 pub record IsLaneOf (program : Program) (first p q : ℕ) (lane : Lane) : Type 0 where
@@ -125,7 +125,7 @@ pub record IsLaneOf (program : Program) (first p q : ℕ) (lane : Lane) : Type 0
   pub short : lane.length < 2 ^ 32
   pub modes : AllByRecursion (IsModeOf program first q lane.width.bits) lane.modes
   -- some mode is active at some time, and no two at one number
-  pub some : (k : ℕ) × (m : Mode) × (slice_get lane.modes k ≡ Some m) × (0 < length m.intervals)
+  pub some : (k : ℕ) × (m : Mode) × (slice_get lane.modes k ≡ Some m) × (0 < length m.windows)
   pub alone : (c i j : ℕ) (m n : Mode) → slice_get lane.modes i ≡ Some m → slice_get lane.modes j ≡ Some n → is_active c m ≡ true → is_active c n ≡ true → i ≡ j
 
 -- the cells have the lanes from q on up to a number, one cell after another
@@ -135,7 +135,7 @@ AreInTurn q (own ∷ cells) count = (own.first ≡ q) × (own.first ≤ own.valu
 
 -- ---- cells of one kind have the same trees in the same modes, whose words come from places of the same sorts
 
-pub record AreAlikeSites (a b : Site) : Type 0 where
+pub record AreAlikeSites (a b : ProgramSite) : Type 0 where
   pub inlet : a.inlet ≡ b.inlet
   pub width : a.width ≡ b.width
 

@@ -3,17 +3,17 @@ use Rattle.std.specs.Prelude.{ℕ, List, map}
 use Rattle.av_base.specs.declared.width.Width.{Width}
 use Rattle.av_flat.specs.declared.tree.Tree.{Tree as TreeMade}
 use Rattle.av_flat.specs.Trees.{view}
-use Rattle.av_kinds.specs.declared.program.Interval.{Interval}
-use Rattle.av_kinds.specs.declared.program.Site.{Site}
+use Rattle.av_kinds.specs.declared.program.Window.{Window}
+use Rattle.av_kinds.specs.declared.program.ProgramSite.{ProgramSite}
 use Rattle.av_kinds.specs.declared.program.CellLanes.{CellLanes}
 use Rattle.av_kinds.specs.Programs.{Work, Mode, Lane, Program}
 
 pub record WorkMade : Type 0 where
-  pub sites : List Site
+  pub sites : List ProgramSite
   pub tree : TreeMade
 
 pub record ModeMade : Type 0 where
-  pub intervals : List Interval
+  pub windows : List Window
   pub work : WorkMade
 
 pub record LaneMade : Type 0 where
@@ -37,7 +37,7 @@ abbrev pub work_of : WorkMade → Work
 work_of work = record { sites = work.sites; tree = view work.tree }
 
 abbrev pub mode_of : ModeMade → Mode
-mode_of m = record { intervals = m.intervals; work = work_of m.work }
+mode_of m = record { windows = m.windows; work = work_of m.work }
 
 abbrev pub lane_of : LaneMade → Lane
 lane_of lane = record { home = lane.home; rank = lane.rank; width = lane.width; modes = map mode_of lane.modes; length = lane.length }

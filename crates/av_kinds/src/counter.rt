@@ -102,7 +102,7 @@ impl Counter {
         drives.push(Drive { target, operation })
     }
 
-    /// Puts the wires of the counter and their drives behind others.
+    /// Appends the wires of the counter and their drives.
     pub(crate) fn add_parts(
         self,
         alloc: Global,

@@ -8,7 +8,7 @@ ghost use Rattle.av_kinds.specs.inner.Numbered.{wire_in};
 ghost use Rattle.av_kinds.specs.inner.Added.{AddsBuilt, as_datapath, as_guarded, HasTaps};
 
 use crate::choice::{Datapath, GuardedDatapath, LaneDatapaths};
-use crate::gates::{Gate, named};
+use crate::gates::{LaneGate, named};
 use crate::naming::WireNames;
 use crate::selection::{fitted, in_guard, selections};
 use crate::tree::tree;
@@ -23,7 +23,7 @@ fn piece(
     counter: &Operand,
     width: Width,
     names: WireNames,
-    gates: &mut Vec<Gate>,
+    gates: &mut Vec<LaneGate>,
     datapath: &Datapath<'_>,
 ) -> Result<Operation, Memory>
     requires { HasTaps datapath.now }
@@ -56,7 +56,7 @@ fn in_mode(
     counter: &Operand,
     width: Width,
     names: WireNames,
-    gates: &mut Vec<Gate>,
+    gates: &mut Vec<LaneGate>,
     mode: &GuardedDatapath<'_>,
     first: Operand,
     second: Operand,
@@ -79,7 +79,7 @@ pub(crate) fn modes(
     counter: &Operand,
     width: Width,
     names: WireNames,
-    gates: &mut Vec<Gate>,
+    gates: &mut Vec<LaneGate>,
     lane: &LaneDatapaths<'_>,
 ) -> Result<Operation, Memory>
     requires modes { AllByRecursion (λ t. HasTaps t.datapath) lane.now.modes }

@@ -12,7 +12,7 @@ use std::alloc::Global;
 
 /// A wire of a lane, whose name is given by its place among the lane's wires.
 #[derive(Drop)]
-pub(crate) struct Gate {
+pub(crate) struct LaneGate {
     pub(crate) width: Width,
     pub(crate) operation: Operation,
 }
@@ -21,7 +21,7 @@ pub(crate) struct Gate {
 fn on_wire(
     alloc: Global,
     names: WireNames,
-    gates: &mut Vec<Gate>,
+    gates: &mut Vec<LaneGate>,
     width: Width,
     operation: Operation,
 ) -> Result<Operand, Memory>
@@ -29,7 +29,7 @@ fn on_wire(
     ensures operand { IfOk result (λ operand. operand ≡ Operand.Name (wire_in names (length gates.old.items))) }
 {
     let number = gates.len();
-    gates.push(Gate { width, operation })?;
+    gates.push(LaneGate { width, operation })?;
     Ok(Operand::Name(names.wire(alloc, number)?))
 }
 
@@ -37,7 +37,7 @@ fn on_wire(
 pub(crate) fn named(
     alloc: Global,
     names: WireNames,
-    gates: &mut Vec<Gate>,
+    gates: &mut Vec<LaneGate>,
     width: Width,
     root: Operation,
 ) -> Result<Operand, Memory>
@@ -60,7 +60,7 @@ pub(crate) fn bit() -> Width
 pub(crate) fn chosen(
     alloc: Global,
     names: WireNames,
-    gates: &mut Vec<Gate>,
+    gates: &mut Vec<LaneGate>,
     test: Operation,
     first: Operand,
     second: Operand,

@@ -6,17 +6,17 @@ ghost use Rattle.av_net.specs.declared.operation.Operand.TheVariants as operand;
 ghost use Rattle.av_kinds.specs.Programs.{IsProgram, lanes_of};
 ghost use Rattle.av_kinds.specs.Written.{program_of, lane_of, mode_of};
 ghost use Rattle.av_kinds.specs.declared.program.CellLanes.{CellLanes};
-ghost use Rattle.av_kinds.specs.declared.program.Link.{Link};
+ghost use Rattle.av_kinds.specs.declared.program.Selection.{Selection};
 ghost use Rattle.av_kinds.specs.Names.{labels};
 ghost use Rattle.av_kinds.specs.Counters.{counter_name};
 ghost use Rattle.av_kinds.specs.inner.Shapes.{mode_shape_of, lane_shape_of, SuitSites, SuitsMode, SuitsLane, SuitLanes};
-ghost use Rattle.av_kinds.specs.inner.Instances.{operand_of, words_for, bounds_for, site_operands, sites_operands, intervals_for, mode_operands, modes_operands, lanes_operands, outputs_from, cell_operands, instance_by};
+ghost use Rattle.av_kinds.specs.inner.Instances.{operand_of, words_for, bounds_for, site_operands, sites_operands, windows_for, mode_operands, modes_operands, lanes_operands, outputs_from, cell_operands, instance_by};
 ghost use Rattle.av_kinds.specs.inner.Reads.{IsThere, SiteThere, ModeThere, LaneThere};
 
 use crate::counter::{Counter, bound};
 use crate::naming::{lane_names, numbered};
 use crate::program::{
-    CellLanes, Inlet, Interval, Lane, Link, Mode, Program, Site, Source, cell_lanes,
+    CellLanes, Inlet, Lane, Mode, Program, ProgramSite, Selection, Window, WordSource, cell_lanes,
 };
 use crate::shape::{LaneShape, ModeShape, SiteShape, counts};
 use av_base::{List, Memory, Name, Width};
@@ -28,42 +28,42 @@ fn operand(
     alloc: Global,
     width: Width,
     program: &Program<'_>,
-    source: Source,
+    source: WordSource,
 ) -> Result<Operand, Memory>
     requires { IsThere (length program.now.lanes) source }
     ensures { IfOk result (λ a. a ≡ operand_of (labels (program_of program.now)) width source) }
 {
     match source {
-        Source::Word(value) => Ok(Operand::Literal { width, value }),
-        Source::Input(number) => Ok(Operand::Name(numbered(alloc, "i", number as u128)?)),
-        Source::Line { lane, delay } => {
+        WordSource::Word(value) => Ok(Operand::Literal { width, value }),
+        WordSource::Input(number) => Ok(Operand::Name(numbered(alloc, "i", number as u128)?)),
+        WordSource::Line { lane, delay } => {
             let name = lane_names(program, lane).line(alloc, delay)?;
             Ok(Operand::Name(name))
         }
     }
 }
 
-// The source of a link, or the last one where there is no such link.
-fn source_at(site: &Site, k: usize) -> Source
-    ensures { result ≡ slice_index_or (map (λ (l : Link). l.source) site.now.links) k site.now.otherwise }
+// The source of a selection, or the last one where there is no such selection.
+fn source_at(site: &ProgramSite, k: usize) -> WordSource
+    ensures { result ≡ slice_index_or (map (λ (l : Selection). l.source) site.now.selections) k site.now.otherwise }
 {
-    match site.links.as_slice().get(k) {
-        Some(link) => link.source,
+    match site.selections.as_slice().get(k) {
+        Some(selection) => selection.source,
         None => site.otherwise,
     }
 }
 
-// The words of a place: its sources, the last one once more for each link that it has not.
+// The words of a place: its sources, the last one once more for each selection that it has not.
 fn add_words(
     alloc: Global,
     program: &Program<'_>,
     width: Width,
     count: u32,
-    site: &Site,
+    site: &ProgramSite,
     operands: &mut List<Operand>,
 ) -> Result<(), Memory>
     requires { SiteThere (length program.now.lanes) site.now }
-    ensures { OnOk result (operands.new ≡ operands.old ++ words_for (operand_of (labels (program_of program.now)) width) count site.now.links site.now.otherwise) }
+    ensures { OnOk result (operands.new ≡ operands.old ++ words_for (operand_of (labels (program_of program.now)) width) count site.now.selections site.now.otherwise) }
 {
     for k in 0..count {
         let source = source_at(site, k as usize);
@@ -72,22 +72,26 @@ fn add_words(
     operands.push(operand(alloc, width, program, site.otherwise)?)
 }
 
-// The bound of a link, or 0 where there is no such link.
-fn last_at(links: &[Link], k: usize) -> u32
-    ensures { result ≡ slice_index_or (map (λ (l : Link). l.last) links.now) k 0 }
+// The bound of a selection, or 0 where there is no such selection.
+fn last_at(selections: &[Selection], k: usize) -> u32
+    ensures { result ≡ slice_index_or (map (λ (l : Selection). l.last) selections.now) k 0 }
 {
-    match links.get(k) {
-        Some(link) => link.last,
+    match selections.get(k) {
+        Some(selection) => selection.last,
         None => 0,
     }
 }
 
 // And its bounds.
-fn add_bounds(links: &[Link], count: u32, operands: &mut List<Operand>) -> Result<(), Memory>
-    ensures { OnOk result (operands.new ≡ operands.old ++ bounds_for count links.now) }
+fn add_bounds(
+    selections: &[Selection],
+    count: u32,
+    operands: &mut List<Operand>,
+) -> Result<(), Memory>
+    ensures { OnOk result (operands.new ≡ operands.old ++ bounds_for count selections.now) }
 {
     for k in 0..count {
-        operands.push(bound(last_at(links, k as usize)))?;
+        operands.push(bound(last_at(selections, k as usize)))?;
     }
     Ok(())
 }
@@ -97,7 +101,7 @@ fn add_site(
     alloc: Global,
     program: &Program<'_>,
     shape: SiteShape,
-    site: &Site,
+    site: &ProgramSite,
     operands: &mut List<Operand>,
 ) -> Result<(), Memory>
     requires { SiteThere (length program.now.lanes) site.now }
@@ -105,8 +109,15 @@ fn add_site(
 {
     match shape.inlet {
         Inlet::Inputs | Inlet::Taps => {
-            add_words(alloc, program, shape.width, shape.links, site, operands)?;
-            add_bounds(site.links.as_slice(), shape.links, operands)
+            add_words(
+                alloc,
+                program,
+                shape.width,
+                shape.selections,
+                site,
+                operands,
+            )?;
+            add_bounds(site.selections.as_slice(), shape.selections, operands)
         }
         Inlet::Pipe(_) => Ok(()),
     }
@@ -117,7 +128,7 @@ fn add_sites(
     alloc: Global,
     program: &Program<'_>,
     shapes: &[SiteShape],
-    sites: &[Site],
+    sites: &[ProgramSite],
     operands: &mut List<Operand>,
 ) -> Result<(), Memory>
     requires suit { SuitSites shapes.now sites.now }
@@ -130,33 +141,29 @@ fn add_sites(
     Ok(())
 }
 
-// An interval, or one from 1 to 0 where there is no such interval.
-fn interval_at(intervals: &[Interval], k: usize) -> Interval
-    ensures { result ≡ slice_index_or intervals.now k (record { first = 1; last = 0 }) }
+// A window, or one from 1 to 0 where there is no such window.
+fn window_at(windows: &[Window], k: usize) -> Window
+    ensures { result ≡ slice_index_or windows.now k (record { first = 1; last = 0 }) }
 {
-    match intervals.get(k) {
-        Some(interval) => *interval,
-        None => Interval { first: 1, last: 0 },
+    match windows.get(k) {
+        Some(window) => *window,
+        None => Window { first: 1, last: 0 },
     }
 }
 
-// The bounds of a mode's intervals; one that it has not goes from 1 to 0.
-fn add_intervals(
-    intervals: &[Interval],
-    count: u32,
-    operands: &mut List<Operand>,
-) -> Result<(), Memory>
-    ensures { OnOk result (operands.new ≡ operands.old ++ intervals_for count intervals.now) }
+// The bounds of a mode's windows; one that it has not goes from 1 to 0.
+fn add_windows(windows: &[Window], count: u32, operands: &mut List<Operand>) -> Result<(), Memory>
+    ensures { OnOk result (operands.new ≡ operands.old ++ windows_for count windows.now) }
 {
     for k in 0..count {
-        let interval = interval_at(intervals, k as usize);
-        operands.push(bound(interval.first))?;
-        operands.push(bound(interval.last))?;
+        let window = window_at(windows, k as usize);
+        operands.push(bound(window.first))?;
+        operands.push(bound(window.last))?;
     }
     Ok(())
 }
 
-// What the ports of a mode take, those of its intervals where it is tested.
+// What the ports of a mode take, those of its windows where it is tested.
 fn add_mode(
     alloc: Global,
     program: &Program<'_>,
@@ -174,7 +181,7 @@ fn add_mode(
     if !is_tested {
         return Ok(());
     }
-    add_intervals(mode.intervals.as_slice(), shape.intervals, operands)
+    add_windows(mode.windows.as_slice(), shape.windows, operands)
 }
 
 // What the ports of a lane take.

@@ -4,7 +4,7 @@ ghost use Rattle.std.specs.Prelude.{◌≡◌, ◌<◌, ◌≤◌, ◌+◌, ◌*
 ghost use Rattle.av_net.specs.declared.operation.Operand.TheVariants as operand;
 ghost use Rattle.av_kinds.specs.Names.{numbered};
 ghost use Rattle.av_kinds.specs.Counters.{counter_width};
-ghost use Rattle.av_kinds.specs.inner.Interfaces.{ports_by, bounds_by, options_by, tap_by, guards_by, interval_ports};
+ghost use Rattle.av_kinds.specs.inner.Interfaces.{ports_by, bounds_by, options_by, tap_by, guards_by, window_ports};
 
 use crate::choice::{Arm, Datapath, Guard, GuardedDatapath, LaneDatapaths, Tap};
 use crate::counter::counter_width;
@@ -57,14 +57,14 @@ fn arms(
     letter: &str,
     word: usize,
     bound: usize,
-    links: usize,
+    selections: usize,
 ) -> Result<List<Arm>, Memory>
-    requires words { word + links < 2 ^ 63 }
-    requires bounds { bound + links < 2 ^ 63 }
-    ensures { IfOk result (λ arms. arms ≡ options_by (numbered letter.now) word bound links) }
+    requires words { word + selections < 2 ^ 63 }
+    requires bounds { bound + selections < 2 ^ 63 }
+    ensures { IfOk result (λ arms. arms ≡ options_by (numbered letter.now) word bound selections) }
 {
     let mut arms = List::new(alloc);
-    for k in 0..links {
+    for k in 0..selections {
         arms.push(Arm {
             guard: Guard::UpTo(named(alloc, "b", bound + k)?),
             operand: named(alloc, letter, word + k)?,
@@ -80,16 +80,16 @@ fn tap(
     width: Width,
     word: usize,
     bound: usize,
-    links: usize,
+    selections: usize,
 ) -> Result<Tap, Memory>
-    requires words { word + links < 2 ^ 63 }
-    requires bounds { bound + links < 2 ^ 63 }
-    ensures { IfOk result (λ tap. tap ≡ tap_by (numbered letter.now) width word bound links) }
+    requires words { word + selections < 2 ^ 63 }
+    requires bounds { bound + selections < 2 ^ 63 }
+    ensures { IfOk result (λ tap. tap ≡ tap_by (numbered letter.now) width word bound selections) }
 {
     Ok(Tap {
         width,
-        arms: arms(alloc, letter, word, bound, links)?,
-        otherwise: named(alloc, letter, word + links)?,
+        arms: arms(alloc, letter, word, bound, selections)?,
+        otherwise: named(alloc, letter, word + selections)?,
     })
 }
 
@@ -100,14 +100,14 @@ fn add_words(
     width: Width,
     word: usize,
     bound: usize,
-    links: usize,
+    selections: usize,
     ports: &mut List<Port>,
 ) -> Result<(), Memory>
-    requires { links < 2 ^ 63 }
-    ensures { OnOk result (ports.new ≡ ports.old ++ (ports_by (numbered letter.now) width word (suc links) ++ bounds_by bound links)) }
+    requires { selections < 2 ^ 63 }
+    ensures { OnOk result (ports.new ≡ ports.old ++ (ports_by (numbered letter.now) width word (suc selections) ++ bounds_by bound selections)) }
 {
-    add_ports(alloc, letter, width, word, links + 1, ports)?;
-    add_ports(alloc, "b", counter_width(), bound, links, ports)
+    add_ports(alloc, letter, width, word, selections + 1, ports)?;
+    add_ports(alloc, "b", counter_width(), bound, selections, ports)
 }
 
 // So many guards, by two bounds each.
@@ -133,7 +133,7 @@ fn add_bounds(
     ports: &mut List<Port>,
 ) -> Result<(), Memory>
     requires { bound + 2 * count < 2 ^ 63 }
-    ensures { OnOk result (ports.new ≡ ports.old ++ interval_ports bound count) }
+    ensures { OnOk result (ports.new ≡ ports.old ++ window_ports bound count) }
 {
     for k in 0..count {
         add_ports(alloc, "b", counter_width(), bound + 2 * k, 2, ports)?;
@@ -167,32 +167,32 @@ impl Interface {
     }
 
     // The ports of a place with words of input ports.
-    fn add_inputs(&mut self, alloc: Global, width: Width, links: u32) -> Result<Tap, Memory>
+    fn add_inputs(&mut self, alloc: Global, width: Width, selections: u32) -> Result<Tap, Memory>
         requires { AreFew self.old }
-        ensures tap { IfOk result (λ tap. tap ≡ interfaces.tap_in (counts_of self.old) Inlet.Inputs width links) }
-        ensures ports { OnOk result (AddsPorts self.old self.new (interfaces.ports_in (counts_of self.old) Inlet.Inputs width links) (interfaces.past (counts_of self.old) Inlet.Inputs links)) }
+        ensures tap { IfOk result (λ tap. tap ≡ interfaces.tap_in (counts_of self.old) Inlet.Inputs width selections) }
+        ensures ports { OnOk result (AddsPorts self.old self.new (interfaces.ports_in (counts_of self.old) Inlet.Inputs width selections) (interfaces.past (counts_of self.old) Inlet.Inputs selections)) }
     {
         prove!(self.ports.len() <= 1 << 30);
-        let (word, bound, links) = (self.inputs, self.bounds, links as usize);
-        let own = tap(alloc, "i", width, word, bound, links)?;
-        add_words(alloc, "i", width, word, bound, links, &mut self.ports)?;
-        self.inputs = word + links + 1;
-        self.bounds = bound + links;
+        let (word, bound, selections) = (self.inputs, self.bounds, selections as usize);
+        let own = tap(alloc, "i", width, word, bound, selections)?;
+        add_words(alloc, "i", width, word, bound, selections, &mut self.ports)?;
+        self.inputs = word + selections + 1;
+        self.bounds = bound + selections;
         Ok(own)
     }
 
     // The ports of a place with words of lines.
-    fn add_taps(&mut self, alloc: Global, width: Width, links: u32) -> Result<Tap, Memory>
+    fn add_taps(&mut self, alloc: Global, width: Width, selections: u32) -> Result<Tap, Memory>
         requires { AreFew self.old }
-        ensures tap { IfOk result (λ tap. tap ≡ interfaces.tap_in (counts_of self.old) Inlet.Taps width links) }
-        ensures ports { OnOk result (AddsPorts self.old self.new (interfaces.ports_in (counts_of self.old) Inlet.Taps width links) (interfaces.past (counts_of self.old) Inlet.Taps links)) }
+        ensures tap { IfOk result (λ tap. tap ≡ interfaces.tap_in (counts_of self.old) Inlet.Taps width selections) }
+        ensures ports { OnOk result (AddsPorts self.old self.new (interfaces.ports_in (counts_of self.old) Inlet.Taps width selections) (interfaces.past (counts_of self.old) Inlet.Taps selections)) }
     {
         prove!(self.ports.len() <= 1 << 30);
-        let (word, bound, links) = (self.taps, self.bounds, links as usize);
-        let own = tap(alloc, "t", width, word, bound, links)?;
-        add_words(alloc, "t", width, word, bound, links, &mut self.ports)?;
-        self.taps = word + links + 1;
-        self.bounds = bound + links;
+        let (word, bound, selections) = (self.taps, self.bounds, selections as usize);
+        let own = tap(alloc, "t", width, word, bound, selections)?;
+        add_words(alloc, "t", width, word, bound, selections, &mut self.ports)?;
+        self.taps = word + selections + 1;
+        self.bounds = bound + selections;
         Ok(own)
     }
 
@@ -203,8 +203,8 @@ impl Interface {
         ensures ports { OnOk result (AddsPorts self.old self.new (interfaces.site_ports (counts_of self.old) site) (interfaces.past_site (counts_of self.old) site)) }
     {
         match site.inlet {
-            Inlet::Inputs => self.add_inputs(alloc, site.width, site.links),
-            Inlet::Taps => self.add_taps(alloc, site.width, site.links),
+            Inlet::Inputs => self.add_inputs(alloc, site.width, site.selections),
+            Inlet::Taps => self.add_taps(alloc, site.width, site.selections),
             Inlet::Pipe(number) => Ok(Tap {
                 width: site.width,
                 arms: List::new(alloc),
@@ -233,7 +233,7 @@ impl Interface {
         })
     }
 
-    // And those of its intervals.
+    // And those of its windows.
     fn add_mode<'a>(
         &mut self,
         alloc: Global,
@@ -245,10 +245,10 @@ impl Interface {
     {
         let datapath = self.add_datapath(alloc, mode)?;
         prove!(self.ports.len() <= 1 << 30);
-        let (bound, intervals) = (self.bounds, mode.intervals as usize);
-        let guards = guards(alloc, bound, intervals)?;
-        add_bounds(alloc, bound, intervals, &mut self.ports)?;
-        self.bounds = bound + 2 * intervals;
+        let (bound, windows) = (self.bounds, mode.windows as usize);
+        let guards = guards(alloc, bound, windows)?;
+        add_bounds(alloc, bound, windows, &mut self.ports)?;
+        self.bounds = bound + 2 * windows;
         Ok(GuardedDatapath { guards, datapath })
     }
 

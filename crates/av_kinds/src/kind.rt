@@ -16,7 +16,7 @@ ghost use Rattle.av_kinds.specs.inner.Lanes.{HasNoParts, AddsLane, AddsLaneOf, I
 
 use crate::choice::LaneDatapaths;
 use crate::datapath::modes;
-use crate::gates::Gate;
+use crate::gates::LaneGate;
 use crate::interface::Interface;
 use crate::naming::{WireNames, numbered};
 use crate::shape::{LaneShape, counts};
@@ -37,14 +37,14 @@ fn add_gate(
     alloc: Global,
     names: WireNames,
     number: usize,
-    gate: Gate,
+    gate: LaneGate,
     wires: &mut List<Port>,
     drives: &mut List<Drive>,
 ) -> Result<(), Memory>
     ensures wires { OnOk result (wires.new ≡ wires.old ++ port gate.width (wire_in names number) ∷ []) }
     ensures drives { OnOk result (drives.new ≡ drives.old ++ record { target = wire_in names number; operation = gate.operation } ∷ []) }
 {
-    let Gate { width, operation } = gate;
+    let LaneGate { width, operation } = gate;
     let target = names.wire(alloc, number)?;
     drives.push(Drive { target, operation })?;
     let name = names.wire(alloc, number)?;
@@ -55,7 +55,7 @@ fn add_gate(
 fn add_gates(
     alloc: Global,
     names: WireNames,
-    gates: Vec<Gate>,
+    gates: Vec<LaneGate>,
     wires: &mut List<Port>,
     drives: &mut List<Drive>,
 ) -> Result<(), Memory>

@@ -20,4 +20,6 @@ mod tree;
 
 pub use counter::Counter;
 pub use planning::{Modules, modules_of};
-pub use program::{CellLanes, Inlet, Interval, Lane, Link, Mode, Program, Site, Source, Work};
+pub use program::{
+    CellLanes, Inlet, Lane, Mode, Program, ProgramSite, Selection, Window, WordSource, Work,
+};

@@ -10,7 +10,7 @@ use std::marker::Model;
 
 /// Where a word comes from.
 #[derive(Clone, Copy, Debug)]
-pub enum Source {
+pub enum WordSource {
     Word(u64),
     /// An input port, by its number.
     Input(usize),
@@ -20,16 +20,16 @@ pub enum Source {
 
 /// Numbers of the counter, bounds included.
 #[derive(Clone, Copy, Debug)]
-pub struct Interval {
+pub struct Window {
     pub first: u32,
     pub last: u32,
 }
 
 /// Up to a number of the counter, this source.
 #[derive(Clone, Copy, Debug)]
-pub struct Link {
+pub struct Selection {
     pub last: u32,
-    pub source: Source,
+    pub source: WordSource,
 }
 
 /// How the words of a place come into a kind: those of input ports and those of lines at ports of their own, or
@@ -42,20 +42,20 @@ pub enum Inlet {
     Pipe(usize),
 }
 
-/// What brings the word of a place that reads: the first link up to whose number the counter is, or the last source.
+/// What brings the word of a place that reads: the first selection up to whose number the counter is, or the last source.
 #[derive(Debug, Drop)]
-pub struct Site {
+pub struct ProgramSite {
     pub inlet: Inlet,
     /// Of its words.
     pub width: Width,
-    pub links: List<Link>,
-    pub otherwise: Source,
+    pub selections: List<Selection>,
+    pub otherwise: WordSource,
 }
 
 /// A tree, and of each place of it that reads what brings the word.
 #[derive(Debug, Drop)]
 pub struct Work<'a> {
-    pub sites: List<Site>,
+    pub sites: List<ProgramSite>,
     pub tree: &'a Tree,
 }
 
@@ -71,10 +71,10 @@ impl<'a> Model for Work<'a> {
     ghost view = { λ w. record { sites = w.sites; tree = w.tree.now } };
 }
 
-/// In these intervals, this work.
+/// In these windows, this work.
 #[derive(Debug, Drop)]
 pub struct Mode<'a> {
-    pub intervals: List<Interval>,
+    pub windows: List<Window>,
     pub work: Work<'a>,
 }
 
@@ -87,7 +87,7 @@ impl<'a> Model for Mode<'a> {
 
     ghost coded = { Prim.hlevel (codes, made.the_row.coded) };
 
-    ghost view = { λ m. record { intervals = m.intervals; work = m.work } };
+    ghost view = { λ m. record { windows = m.windows; work = m.work } };
 }
 
 /// A lane of a cell: the value of the cell, or one of its pipelines.

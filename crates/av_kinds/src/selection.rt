@@ -7,7 +7,7 @@ ghost use Rattle.av_kinds.specs.inner.Numbered.{wire_in};
 ghost use Rattle.av_kinds.specs.inner.Added.{AddsBuilt, AddsTaken, AddsGuarded, choice_built};
 
 use crate::choice::{Arm, Guard, Tap};
-use crate::gates::{Gate, bit, named};
+use crate::gates::{LaneGate, bit, named};
 use crate::naming::WireNames;
 use av_base::{List, Memory, Width};
 use av_net::{Operand, Operation, Symbol};
@@ -34,7 +34,7 @@ fn guard_test(
     alloc: Global,
     counter: &Operand,
     names: WireNames,
-    gates: &mut Vec<Gate>,
+    gates: &mut Vec<LaneGate>,
     guard: &Guard,
 ) -> Result<Operation, Memory>
     ensures { IfOk result (AddsBuilt gates.old.items gates.new.items (guard_built (wire_in names) (length gates.old.items) counter.now guard.now)) }
@@ -60,7 +60,7 @@ fn either(
     alloc: Global,
     counter: &Operand,
     names: WireNames,
-    gates: &mut Vec<Gate>,
+    gates: &mut Vec<LaneGate>,
     guard: &Guard,
     first: Operand,
     second: Operand,
@@ -82,7 +82,7 @@ pub(crate) fn in_guard(
     counter: &Operand,
     width: Width,
     names: WireNames,
-    gates: &mut Vec<Gate>,
+    gates: &mut Vec<LaneGate>,
     guard: &Guard,
     operand: &Operand,
     root: Operation,
@@ -99,7 +99,7 @@ fn selection(
     alloc: Global,
     counter: &Operand,
     names: WireNames,
-    gates: &mut Vec<Gate>,
+    gates: &mut Vec<LaneGate>,
     tap: &Tap,
 ) -> Result<Operation, Memory>
     ensures { IfOk result (AddsBuilt gates.old.items gates.new.items (tap_built (wire_in names) counter.now (length gates.old.items) tap.now)) }
@@ -151,7 +151,7 @@ pub(crate) fn fitted(
     counter: &Operand,
     width: Width,
     names: WireNames,
-    gates: &mut Vec<Gate>,
+    gates: &mut Vec<LaneGate>,
     tap: &Tap,
 ) -> Result<Operation, Memory>
     ensures { IfOk result (AddsBuilt gates.old.items gates.new.items (fit_built (wire_in names) width counter.now (length gates.old.items) tap.now)) }
@@ -170,7 +170,7 @@ pub(crate) fn selections(
     counter: &Operand,
     width: Width,
     names: WireNames,
-    gates: &mut Vec<Gate>,
+    gates: &mut Vec<LaneGate>,
     taps: &[Tap],
 ) -> Result<List<Operand>, Memory>
     ensures { IfOk result (AddsTaken gates.old.items gates.new.items (taps_built (wire_in names) width counter.now (length gates.old.items) taps.now)) }

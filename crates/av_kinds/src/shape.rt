@@ -1,4 +1,4 @@
-//! The shape of a kind: of each of its lanes the modes that some cell of the kind has, and how many links and intervals there
+//! The shape of a kind: of each of its lanes the modes that some cell of the kind has, and how many selections and windows there
 //! is room for.
 
 ghost use Rattle.std.specs.Prelude.{◌≡◌, ◌<◌, ℕ, [], ◌∷◌, ◌++◌, Some, filter, length, map, slice_get, slice_index_or, IfOk, OnOk};
@@ -11,25 +11,25 @@ ghost use Rattle.av_kinds.specs.inner.Shapes.{mode_shape_of, lane_shape_of};
 ghost use Rattle.av_kinds.specs.inner.Shaped as shaped;
 ghost use Rattle.av_kinds.specs.inner.Kinds.{selects, lane_counts, counts};
 
-use crate::program::{Inlet, Lane, Mode, Program, Site, cell_lanes};
+use crate::program::{Inlet, Lane, Mode, Program, ProgramSite, cell_lanes};
 use av_base::{List, Memory, Width};
 use av_flat::Tree;
 use std::alloc::Global;
 use std::marker::Model;
 
-/// A place that reads: so many links, and the last source.
+/// A place that reads: so many selections, and the last source.
 #[derive(Clone, Copy)]
 pub(crate) struct SiteShape {
     pub(crate) inlet: Inlet,
     pub(crate) width: Width,
-    pub(crate) links: u32,
+    pub(crate) selections: u32,
 }
 
-/// The mode of this number, with so many intervals.
+/// The mode of this number, with so many windows.
 #[derive(Drop)]
 pub(crate) struct ModeShape<'a> {
     pub(crate) number: usize,
-    pub(crate) intervals: u32,
+    pub(crate) windows: u32,
     pub(crate) sites: List<SiteShape>,
     pub(crate) tree: &'a Tree,
 }
@@ -43,7 +43,7 @@ impl<'a> Model for ModeShape<'a> {
 
     ghost coded = { Prim.hlevel (codes, made.the_row.coded) };
 
-    ghost view = { λ m. record { number = m.number; intervals = m.intervals; sites = m.sites; tree = m.tree.now } };
+    ghost view = { λ m. record { number = m.number; windows = m.windows; sites = m.sites; tree = m.tree.now } };
 }
 
 /// A lane of a kind, with its modes.
@@ -65,21 +65,21 @@ impl<'a> Model for LaneShape<'a> {
     ghost view = { λ l. record { width = l.width; modes = l.modes } };
 }
 
-// The room for links of a place before, where there is one.
-fn links_before(before: &[SiteShape], k: usize) -> u32
-    ensures { result ≡ slice_index_or (map (λ (s : SiteShape). s.links) before.now) k 0 }
+// The room for selections of a place before, where there is one.
+fn selections_before(before: &[SiteShape], k: usize) -> u32
+    ensures { result ≡ slice_index_or (map (λ (s : SiteShape). s.selections) before.now) k 0 }
 {
     match before.get(k) {
-        Some(shape) => shape.links,
+        Some(shape) => shape.selections,
         None => 0,
     }
 }
 
-// Places with room for the links of places before, where there are some, and for their own.
+// Places with room for the selections of places before, where there are some, and for their own.
 fn site_shapes(
     alloc: Global,
     before: &[SiteShape],
-    sites: &[Site],
+    sites: &[ProgramSite],
 ) -> Result<List<SiteShape>, Memory>
     ensures { IfOk result (λ shapes. shapes ≡ shaped.site_shapes before.now sites.now) }
 {
@@ -88,13 +88,13 @@ fn site_shapes(
         shapes.push(SiteShape {
             inlet: site.inlet,
             width: site.width,
-            links: links_before(before, k).max(site.links.len() as u32),
+            selections: selections_before(before, k).max(site.selections.len() as u32),
         })?;
     }
     Ok(shapes)
 }
 
-// A mode with room for the intervals of one before, where there is one, and for its own.
+// A mode with room for the windows of one before, where there is one, and for its own.
 fn mode_shape<'a>(
     alloc: Global,
     before: Option<&ModeShape<'a>>,
@@ -104,17 +104,17 @@ fn mode_shape<'a>(
     ensures { IfOk result (λ shape. mode_shape_of shape ≡ shaped.mode_shape_by (option_map (λ m. mode_shape_of m.now) before.entry) number (mode_of mode.now)) }
 {
     let sites = mode.work.sites.as_slice();
-    let own = mode.intervals.len() as u32;
+    let own = mode.windows.len() as u32;
     match before {
         Some(shape) => Ok(ModeShape {
             number,
-            intervals: shape.intervals.max(own),
+            windows: shape.windows.max(own),
             sites: site_shapes(alloc, shape.sites.as_slice(), sites)?,
             tree: mode.work.tree,
         }),
         None => Ok(ModeShape {
             number,
-            intervals: own,
+            windows: own,
             sites: site_shapes(alloc, &[], sites)?,
             tree: mode.work.tree,
         }),
@@ -181,13 +181,13 @@ fn copied<'a>(alloc: Global, mode: &ModeShape<'a>) -> Result<ModeShape<'a>, Memo
     }
     Ok(ModeShape {
         number: mode.number,
-        intervals: mode.intervals,
+        windows: mode.windows,
         sites,
         tree: mode.tree,
     })
 }
 
-// The same mode behind others, where it has an interval.
+// The same mode behind others, where it has a window.
 fn add_used<'a>(
     alloc: Global,
     mode: &ModeShape<'a>,
@@ -195,14 +195,14 @@ fn add_used<'a>(
 ) -> Result<(), Memory>
     ensures { OnOk result (map mode_shape_of modes.new ≡ map mode_shape_of modes.old ++ filter shaped.is_used (mode_shape_of mode.now ∷ [])) }
 {
-    if mode.intervals > 0 {
+    if mode.windows > 0 {
         modes.push(copied(alloc, mode)?)
     } else {
         Ok(())
     }
 }
 
-// The modes of a lane that have an interval.
+// The modes of a lane that have a window.
 fn used<'a>(alloc: Global, lane: &LaneShape<'a>) -> Result<LaneShape<'a>, Memory>
     ensures { IfOk result (λ shape. lane_shape_of shape ≡ shaped.used (lane_shape_of lane.now)) }
 {
@@ -268,19 +268,19 @@ pub(crate) fn kind_shape<'a>(
     Ok(shapes)
 }
 
-// Whether the mode has a place with a link.
+// Whether the mode has a place with a selection.
 fn selects(mode: &ModeShape<'_>) -> bool
     ensures { result ≡ selects (mode_shape_of mode.now) }
 {
     for site in mode.sites.as_slice() {
-        if site.links > 0 {
+        if site.selections > 0 {
             return true;
         }
     }
     false
 }
 
-// Whether the lane tests the counter: it has two modes, or one with a link.
+// Whether the lane tests the counter: it has two modes, or one with a selection.
 fn lane_counts(lane: &LaneShape<'_>) -> bool
     ensures { result ≡ lane_counts (lane_shape_of lane.now) }
 {

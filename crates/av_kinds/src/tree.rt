@@ -6,7 +6,7 @@ ghost use Rattle.av_kinds.specs.inner.Cells.{operand_at};
 ghost use Rattle.av_kinds.specs.inner.Numbered.{wire_in};
 ghost use Rattle.av_kinds.specs.inner.Added.{Adds, AddsBuilt, AddsOperand};
 
-use crate::gates::{Gate, chosen, named};
+use crate::gates::{LaneGate, chosen, named};
 use crate::naming::WireNames;
 use av_base::{Memory, Width};
 use av_flat::Tree;
@@ -61,7 +61,7 @@ fn less(alloc: Global, left: &Operand, right: &Operand) -> Result<Operation, Mem
 fn operator(
     alloc: Global,
     names: WireNames,
-    gates: &mut Vec<Gate>,
+    gates: &mut Vec<LaneGate>,
     sign: Sign,
     left: Operand,
     right: Operand,
@@ -90,7 +90,7 @@ pub(crate) fn tree(
     names: WireNames,
     width: Width,
     taps: &[Operand],
-    gates: &mut Vec<Gate>,
+    gates: &mut Vec<LaneGate>,
     site: &mut usize,
     tree: &Tree,
 ) -> Result<Operation, Memory>
@@ -138,7 +138,7 @@ fn operand(
     names: WireNames,
     width: Width,
     taps: &[Operand],
-    gates: &mut Vec<Gate>,
+    gates: &mut Vec<LaneGate>,
     site: &mut usize,
     of: &Tree,
 ) -> Result<Operand, Memory>

@@ -22,7 +22,7 @@ const UNCOUNTED_TICKS: u32 = 7;
 
 /// Eight lanes of a module in which what gives the same word is computed once: each word is read at its source.
 #[derive(Drop)]
-pub(crate) struct Engine<'a> {
+pub(crate) struct LaneEngine<'a> {
     of: &'a Module,
     // The source of each place, where its word stands.
     sources: Vec<usize>,
@@ -49,7 +49,7 @@ pub(crate) struct Engine<'a> {
     settled: bool,
 }
 
-impl<'a> Model for Engine<'a> {
+impl<'a> Model for LaneEngine<'a> {
     ghost use Rattle.av_lanes.specs.Seen.{Seen};
 
     ghost Value = { Seen };
@@ -61,9 +61,9 @@ impl<'a> Model for Engine<'a> {
     ghost invariant = { IsKept };
 }
 
-impl<'a> Engine<'a> {
+impl<'a> LaneEngine<'a> {
     /// Eight lanes of a sound module, not settled. All words are 0 in each lane.
-    pub(crate) fn new(alloc: Global, of: &'a Module) -> Result<Engine<'a>, Memory>
+    pub(crate) fn new(alloc: Global, of: &'a Module) -> Result<LaneEngine<'a>, Memory>
         requires { IsSound of.now }
         ensures of { IfOk result (λ lanes. lanes.of ≡ of.now) }
         ensures words { IfOk result (λ lanes. (k : ℕ) → k < 8 → lane k lanes.words ≡ replicate (length (all_names of.now)) 0) }
@@ -79,7 +79,7 @@ impl<'a> Engine<'a> {
         let moves = Moves::new(alloc, &circuit)?;
         let stale = Marks::new(alloc, circuit.drives())?;
         let due = Marks::new(alloc, circuit.steps())?;
-        Ok(Engine {
+        Ok(LaneEngine {
             of,
             sources,
             circuit,

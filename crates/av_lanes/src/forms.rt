@@ -17,7 +17,7 @@ use std::simd::prelude::*;
 
 /// The form of a gate.
 #[derive(Clone, Copy)]
-pub(crate) enum Form {
+pub(crate) enum GateForm {
     /// A sum of two words of the width, whose bits the mask has.
     Sum {
         left: Reading,
@@ -47,12 +47,12 @@ pub(crate) enum Form {
 pub(crate) struct Formed {
     pub(crate) target: usize,
     pub(crate) width: Width,
-    pub(crate) form: Form,
+    pub(crate) form: GateForm,
 }
 
-impl Form {
+impl GateForm {
     /// The form of a gate.
-    fn of(gate: &Gate) -> Form
+    fn of(gate: &Gate) -> GateForm
         ensures gate { gate_of result ≡ gate.now }
         ensures masked { IsMasked result }
     {
@@ -67,30 +67,30 @@ impl Form {
                 condition,
                 first,
                 second,
-            } => Form::Choice {
+            } => GateForm::Choice {
                 condition: *condition,
                 first: *first,
                 second: *second,
             },
-            _ => Form::Any(*gate),
+            _ => GateForm::Any(*gate),
         }
     }
 }
 
 // That of an operator.
-fn operator_form(left: Reading, symbol: Symbol, right: Reading, width: Width) -> Form
+fn operator_form(left: Reading, symbol: Symbol, right: Reading, width: Width) -> GateForm
     ensures gate { gate_of result ≡ Operator left symbol right width }
     ensures masked { IsMasked result }
 {
     match symbol {
-        Symbol::Add => Form::Sum {
+        Symbol::Add => GateForm::Sum {
             left,
             right,
             width,
             mask: greatest(width),
         },
         Symbol::Mul => product_form(left, right, width),
-        _ => Form::Any(Gate::Operator {
+        _ => GateForm::Any(Gate::Operator {
             left,
             symbol,
             right,
@@ -100,19 +100,19 @@ fn operator_form(left: Reading, symbol: Symbol, right: Reading, width: Width) ->
 }
 
 // That of a product.
-fn product_form(left: Reading, right: Reading, width: Width) -> Form
+fn product_form(left: Reading, right: Reading, width: Width) -> GateForm
     ensures gate { gate_of result ≡ Operator left Mul right width }
     ensures masked { IsMasked result }
 {
     if width.bits <= 32 {
-        Form::Product {
+        GateForm::Product {
             left,
             right,
             width,
             mask: greatest(width),
         }
     } else {
-        Form::Any(Gate::Operator {
+        GateForm::Any(Gate::Operator {
             left,
             symbol: Symbol::Mul,
             right,
@@ -123,30 +123,30 @@ fn product_form(left: Reading, right: Reading, width: Width) -> Form
 
 /// What a gate in its form gives where the words of the module are these.
 #[inline(always)]
-pub(crate) fn word_formed(form: &Form, words: &[u64x8]) -> u64x8
+pub(crate) fn word_formed(form: &GateForm, words: &[u64x8]) -> u64x8
     requires takes { (k : ℕ) → k < 8 → CanTake (lane k words.now) (gate_of form.now) }
     requires masked { IsMasked form.now }
     ensures { (k : ℕ) → k < 8 → slice_index result k ≡ gate_word (lane k words.now) (gate_of form.now) }
 {
     match form {
-        Form::Sum {
+        GateForm::Sum {
             left,
             right,
             mask,
             ..
         } => masked_sum(word_read(*left, words), word_read(*right, words), *mask),
-        Form::Product {
+        GateForm::Product {
             left,
             right,
             mask,
             ..
         } => masked_product(word_read(*left, words), word_read(*right, words), *mask),
-        Form::Choice {
+        GateForm::Choice {
             condition,
             first,
             second,
         } => word_chosen(*condition, *first, *second, words),
-        Form::Any(gate) => word_given(gate, words),
+        GateForm::Any(gate) => word_given(gate, words),
     }
 }
 
@@ -172,7 +172,7 @@ fn in_form(assignment: &Assignment) -> Formed
     Formed {
         target: assignment.target,
         width: assignment.width,
-        form: Form::of(&assignment.gate),
+        form: GateForm::of(&assignment.gate),
     }
 }
 

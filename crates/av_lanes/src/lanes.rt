@@ -7,7 +7,7 @@ ghost use Rattle.av_net.specs.Clocked.{Edge};
 ghost use Rattle.av_net.specs.Sound.{IsSound};
 ghost use Rattle.av_lanes.specs.Seen.{lane, carried};
 
-use crate::engine::Engine;
+use crate::engine::LaneEngine;
 use av_base::Memory;
 use av_net::Module;
 use std::alloc::Global;
@@ -17,7 +17,7 @@ use std::simd::u64x8;
 /// A module that is clocked eight times at once, each time in a lane of its own.
 #[derive(Drop)]
 pub struct Lanes<'a> {
-    engine: Engine<'a>,
+    engine: LaneEngine<'a>,
 }
 
 impl<'a> Model for Lanes<'a> {
@@ -36,7 +36,7 @@ impl<'a> Lanes<'a> {
         ensures words { IfOk result (λ lanes. (k : ℕ) → k < 8 → lane k lanes.words ≡ replicate (length (all_names of.now)) 0) }
         ensures flag { IfOk result (λ lanes. lanes.settled ≡ false) }
     {
-        let engine = Engine::new(alloc, of)?;
+        let engine = LaneEngine::new(alloc, of)?;
         Ok(Lanes { engine })
     }
 

@@ -2,7 +2,7 @@
 use Rattle.std.proofs.Common.{◌≡◌, ℕ, ◌^◌, ◌<◌, true, List, length, take, drop, get_or, refl}
 use Rattle.std.specs.Str.{IsAscii}
 use borrow.Author.Tests.{ltb-true}
-use Rattle.av_base.specs.declared.piece.Piece.TheVariants as piece
+use Rattle.av_base.specs.declared.lexeme.Lexeme.TheVariants as piece
 use Rattle.av_base.specs.declared.token_kind.TokenKind.{TokenKind}
 use Rattle.av_base.specs.declared.token_kind.TokenKind.TheVariants as kind
 use Rattle.av_base.specs.Tokens.{reserved_words, symbols, IsSpelled, number_of, program_texts}

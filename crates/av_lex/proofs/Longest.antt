@@ -6,7 +6,7 @@ use Rattle.std.specs.Char.{is_ascii_alphabetic, is_ascii_digit}
 use borrow.Author.Tests.{ltb-true}
 use Rattle.av_base.specs.declared.token_kind.TokenKind.{TokenKind}
 use Rattle.av_base.specs.declared.token_kind.TokenKind.TheVariants as kind
-use Rattle.av_base.specs.declared.piece.Piece.TheVariants as piece
+use Rattle.av_base.specs.declared.lexeme.Lexeme.TheVariants as piece
 use Rattle.av_base.specs.Spelling.{is_reserved}
 use Rattle.av_base.specs.Tokens.{reserved_words, is_word_byte, is_blank, IsWord, IsSpelled, IsInRange, program_texts}
 use Rattle.av_lex.specs.inner.Reading.{scanner}

@@ -9,7 +9,7 @@ ghost use Rattle.av_lex.specs.declared.fault.LexFault.{LexFault};
 use crate::number::is_in_range;
 use crate::scan::piece_at;
 use crate::{LexFault, Token, TokenKind};
-use av_base::{List, Piece, Place, moved, part};
+use av_base::{Lexeme, List, Place, moved, part};
 use std::alloc::Global;
 
 fn tokens<'a>(alloc: Global, bytes: &'a [u8]) -> Result<List<Token<'a>>, LexFault>
@@ -21,11 +21,11 @@ fn tokens<'a>(alloc: Global, bytes: &'a [u8]) -> Result<List<Token<'a>>, LexFaul
     let mut at = 0;
     while at < bytes.len() {
         match piece_at(bytes, at) {
-            Piece::Gap(len) => {
+            Lexeme::Gap(len) => {
                 place = moved(place, part(bytes, at, len));
                 at += len;
             }
-            Piece::Token(kind, len) => {
+            Lexeme::Token(kind, len) => {
                 let text = part(bytes, at, len);
                 if !is_in_range(kind, text) {
                     return Err(LexFault::Number(place));
@@ -34,7 +34,7 @@ fn tokens<'a>(alloc: Global, bytes: &'a [u8]) -> Result<List<Token<'a>>, LexFaul
                 place = moved(place, text);
                 at += len;
             }
-            Piece::Bad => return Err(LexFault::BadByte(place)),
+            Lexeme::Bad => return Err(LexFault::BadByte(place)),
         }
     }
     found.push(Token::new(TokenKind::End, part(bytes, at, 0), place))?;

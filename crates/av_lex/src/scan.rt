@@ -5,7 +5,7 @@ ghost use Rattle.av_base.specs.Reading.{FitsIn};
 ghost use Rattle.av_lex.specs.inner.Scan.{is_single, is_pair, begins_pair, symbol_of, word_kind, token_of, piece_of};
 
 use av_base::{
-    Piece, TokenKind, begins_comment, digits_len, is_blank, is_reserved_word, line_len, word_len,
+    Lexeme, TokenKind, begins_comment, digits_len, is_blank, is_reserved_word, line_len, word_len,
 };
 
 fn word_kind(text: &[u8]) -> TokenKind
@@ -63,47 +63,47 @@ fn begins_pair(text: &[u8]) -> bool
 }
 
 #[tactic(auto, unfolding(crate::specs::inner::Scan::symbol_of))]
-fn symbol_of(first: u8, text: &[u8]) -> Piece<TokenKind>
+fn symbol_of(first: u8, text: &[u8]) -> Lexeme<TokenKind>
     ensures { result ≡ symbol_of first text.now }
 {
     if begins_pair(text) {
-        Piece::Token(TokenKind::Symbol, 2)
+        Lexeme::Token(TokenKind::Symbol, 2)
     } else if is_single(first) {
-        Piece::Token(TokenKind::Symbol, 1)
+        Lexeme::Token(TokenKind::Symbol, 1)
     } else {
-        Piece::Bad
+        Lexeme::Bad
     }
 }
 
 #[tactic(auto, unfolding(crate::specs::inner::Scan::token_of))]
-fn token_of(first: u8, text: &[u8]) -> Piece<TokenKind>
+fn token_of(first: u8, text: &[u8]) -> Lexeme<TokenKind>
     ensures { result ≡ token_of first text.now }
 {
     if first.is_ascii_alphabetic() {
         let len = word_len(text);
-        Piece::Token(word_kind(&text[..len]), len)
+        Lexeme::Token(word_kind(&text[..len]), len)
     } else if first.is_ascii_digit() {
-        Piece::Token(TokenKind::Number, digits_len(text))
+        Lexeme::Token(TokenKind::Number, digits_len(text))
     } else {
         symbol_of(first, text)
     }
 }
 
 #[tactic(auto, unfolding(av_base::specs::Reading::piece_by))]
-fn piece_of(first: u8, text: &[u8]) -> Piece<TokenKind>
+fn piece_of(first: u8, text: &[u8]) -> Lexeme<TokenKind>
     ensures { result ≡ piece_of first text.now }
 {
     if is_blank(first) {
-        Piece::Gap(1)
+        Lexeme::Gap(1)
     } else if begins_comment(text, b'-') {
-        Piece::Gap(line_len(text))
+        Lexeme::Gap(line_len(text))
     } else {
         token_of(first, text)
     }
 }
 
 /// What stands at an index of a text.
-pub(crate) fn piece_at(text: &[u8], at: usize) -> Piece<TokenKind>
+pub(crate) fn piece_at(text: &[u8], at: usize) -> Lexeme<TokenKind>
     requires { at < length text.now }
     ensures piece { result ≡ piece_of (slice_index text.now at) (drop at text.now) }
     ensures fits { FitsIn result (length text.now - at) }

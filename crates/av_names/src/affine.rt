@@ -136,7 +136,7 @@ fn strict_row(sizes: &NameMap<'_, i64>, names: &[Name], left: &IndexExpr, right:
     row(sizes, names, left, right, 1)
 }
 
-/// Puts the rows of a comparison behind the others.
+/// Appends the rows of a comparison.
 fn push_rows(
     to: &mut List<Form>,
     sizes: &NameMap<'_, i64>,

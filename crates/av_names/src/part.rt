@@ -24,7 +24,7 @@ pub(crate) struct Part<'a> {
     pub(crate) expr: &'a Expr,
 }
 
-/// Puts the parts of an expression behind the others.
+/// Appends the parts of an expression.
 #[cycle(gather)]
 pub(crate) fn gather<'a>(
     parts: &mut Vec<Part<'a>>,

@@ -16,7 +16,7 @@ use Rattle.av_net.specs.declared.netlist.Port.{Port}
 use Rattle.av_net.specs.Meaning.{Widths, operand_width}
 use Rattle.av_net.specs.Names.{AreDistinct, names_of, width_in}
 use Rattle.av_net.specs.Plans.{SuitPorts}
-use Rattle.av_net.specs.Grammar.{Link}
+use Rattle.av_net.specs.Grammar.{PortLink}
 use Rattle.av_net.specs.Rows.{is_in, operand_to, name_in, name_to, names_in, suits_port}
 use Rattle.av_net.proofs.Distinct.{apart, rest_distinct}
 use Rattle.av_net.proofs.Settles.{not_equal}
@@ -25,17 +25,17 @@ use Rattle.av_net.proofs.Counts.{once, count, count_none, count_first, count_one
 
 -- ---- the link of a port
 
-abbrev pub ports_in : List Link → List (List ℕ)
+abbrev pub ports_in : List PortLink → List (List ℕ)
 ports_in links = map (λ link. link.port) links
 
 -- a link of this port stands among the links, and its operand is what the port has
-pub record IsLinkOf (links : List Link) (port : List ℕ) (operand : Operand) : Type 0 where
-  pub link : Link
+pub record IsLinkOf (links : List PortLink) (port : List ℕ) (operand : Operand) : Type 0 where
+  pub link : PortLink
   pub among : Contains links link
   pub of_port : link.port ≡ port
   pub has : link.operand ≡ operand
 
-pub link_of : (links : List Link) (port : Port) → Contains (ports_in links) port.name → IsLinkOf links port.name (operand_to links port)
+pub link_of : (links : List PortLink) (port : Port) → Contains (ports_in links) port.name → IsLinkOf links port.name (operand_to links port)
 link_of [] port at = absurd (none_among port.name at)
 link_of (link ∷ links) port at = by_test (bytes_eq link.port port.name)
     (λ same. record { link = link; among = first_among link links; of_port = (bytes_eq-Decides link.port port.name).0 same; has = rw same refl })
@@ -50,14 +50,14 @@ link_of (link ∷ links) port at = by_test (bytes_eq link.port port.name)
 -- ---- the names that links drive, port by port
 
 -- what the links of one port name
-abbrev pub at_port : List ℕ → Link → List (List ℕ)
+abbrev pub at_port : List ℕ → PortLink → List (List ℕ)
 at_port port link = if bytes_eq link.port port then names_in link.operand else []
 
 -- what the links of some ports name
-abbrev pub at_ports : List Port → Link → List (List ℕ)
+abbrev pub at_ports : List Port → PortLink → List (List ℕ)
 at_ports ports link = if is_in (names_of ports) link.port then names_in link.operand else []
 
-no_link : (port : List ℕ) (links : List Link) → (Contains (ports_in links) port → ⊥) → flat_map (at_port port) links ≡ []
+no_link : (port : List ℕ) (links : List PortLink) → (Contains (ports_in links) port → ⊥) → flat_map (at_port port) links ≡ []
 no_link port [] none = refl
 no_link port (link ∷ links) none =
     let other : bytes_eq link.port port ≡ false = not_equal link.port port (λ same. none (0, omega arith, same)) in
@@ -65,7 +65,7 @@ no_link port (link ∷ links) none =
     rw (other, more) refl
 
 -- a port that is linked once, to a name
-port_names : (links : List Link) (port : Port) → AreDistinct (ports_in links) → Contains (ports_in links) port.name → flat_map (at_port port.name) links ≡ names_in (operand_to links port)
+port_names : (links : List PortLink) (port : Port) → AreDistinct (ports_in links) → Contains (ports_in links) port.name → flat_map (at_port port.name) links ≡ names_in (operand_to links port)
 port_names [] port distinct at = absurd (none_among port.name at)
 port_names (link ∷ links) port distinct at = by_test (bytes_eq link.port port.name)
     (λ same.
@@ -81,7 +81,7 @@ port_names (link ∷ links) port distinct at = by_test (bytes_eq link.port port.
     rw (other, rest) refl)
 
 -- one link, where a port stands before others
-one_link : (name : List ℕ) (port : Port) (ports : List Port) (link : Link) → (Contains (names_of ports) port.name → ⊥)
+one_link : (name : List ℕ) (port : Port) (ports : List Port) (link : PortLink) → (Contains (names_of ports) port.name → ⊥)
     → count name (at_ports (port ∷ ports) link) ≡ count name (at_port port.name link) + count name (at_ports ports link)
 one_link name port ports link none = by_test (bytes_eq link.port port.name)
     (λ same.
@@ -91,7 +91,7 @@ one_link name port ports link none = by_test (bytes_eq link.port port.name)
     rw (same, other) (omega arith))
     (λ differs. let zero : count name [] ≡ 0 = count_none name in rw differs (omega arith))
 
-several_links : (name : List ℕ) (port : Port) (ports : List Port) (links : List Link) → (Contains (names_of ports) port.name → ⊥)
+several_links : (name : List ℕ) (port : Port) (ports : List Port) (links : List PortLink) → (Contains (names_of ports) port.name → ⊥)
     → count name (flat_map (at_ports (port ∷ ports)) links) ≡ count name (flat_map (at_port port.name) links) + count name (flat_map (at_ports ports) links)
 several_links name port ports [] none = let zero : count name [] ≡ 0 = count_none name in omega arith
 several_links name port ports (link ∷ links) none =
@@ -102,7 +102,7 @@ several_links name port ports (link ∷ links) none =
     let c = count_joined name (at_ports ports link) (flat_map (at_ports ports) links) in
     omega arith
 
-no_ports : (name : List ℕ) (links : List Link) → count name (flat_map (at_ports []) links) ≡ 0
+no_ports : (name : List ℕ) (links : List PortLink) → count name (flat_map (at_ports []) links) ≡ 0
 no_ports name [] = count_none name
 no_ports name (link ∷ links) = no_ports name links
 
@@ -116,11 +116,11 @@ named_once (Name name) is = refl
 named_once (Literal width value) is = absurd is
 
 -- each of these ports is linked, to a name
-abbrev pub AreLinked : List Link → List Port → Type 0
+abbrev pub AreLinked : List PortLink → List Port → Type 0
 AreLinked links ports = AllByRecursion (λ port. Contains (ports_in links) port.name × IsNamed (operand_to links port)) ports
 
 -- the names at the ports are those that the links of these ports name, in another order
-pub count_linked : (name : List ℕ) (ports : List Port) (links : List Link) → AreDistinct (names_of ports) → AreDistinct (ports_in links) → AreLinked links ports
+pub count_linked : (name : List ℕ) (ports : List Port) (links : List PortLink) → AreDistinct (names_of ports) → AreDistinct (ports_in links) → AreLinked links ports
     → count name (map (name_to links) ports) ≡ count name (flat_map (at_ports ports) links)
 count_linked name [] links ports_once links_once linked = count_none name ∙ sym (no_ports name links)
 count_linked name (port ∷ ports) links ports_once links_once linked =
@@ -135,8 +135,8 @@ count_linked name (port ∷ ports) links ports_once links_once linked =
 -- ---- what stands at the ports
 
 -- a fact on each operand that stands at these ports
-pub operands_all : (P : Operand → Type 0) (links : List Link) (ports : List Port) → ((port : Port) → Contains ports port → Contains (ports_in links) port.name)
-    → ((link : Link) → Contains links link → Contains (names_of ports) link.port → P link.operand) → AllByRecursion P (map (operand_to links) ports)
+pub operands_all : (P : Operand → Type 0) (links : List PortLink) (ports : List Port) → ((port : Port) → Contains ports port → Contains (ports_in links) port.name)
+    → ((link : PortLink) → Contains links link → Contains (names_of ports) link.port → P link.operand) → AllByRecursion P (map (operand_to links) ports)
 operands_all P links ports linked each = go ports (λ port at. at)
   where
     go : (some : List Port) → ((port : Port) → Contains some port → Contains ports port) → AllByRecursion P (map (operand_to links) some)
@@ -148,8 +148,8 @@ operands_all P links ports linked each = go ports (λ port at. at)
         (subst P l.has (each l.link l.among named), go some (λ other more. within other (more_among port other some more)))
 
 -- the width of an operand is that of its port
-pub suit_ports : (widths : Widths) (links : List Link) (all : List Port) → AreDistinct (names_of all) → (ports : List Port) → ((port : Port) → Contains ports port → Contains all port)
-    → ((port : Port) → Contains ports port → Contains (ports_in links) port.name) → ((link : Link) → Contains links link → suits_port widths all link ≡ true)
+pub suit_ports : (widths : Widths) (links : List PortLink) (all : List Port) → AreDistinct (names_of all) → (ports : List Port) → ((port : Port) → Contains ports port → Contains all port)
+    → ((port : Port) → Contains ports port → Contains (ports_in links) port.name) → ((link : PortLink) → Contains links link → suits_port widths all link ≡ true)
     → SuitPorts widths (map (operand_to links) ports) ports
 suit_ports widths links all distinct [] within linked suits = tt
 suit_ports widths links all distinct (port ∷ ports) within linked suits =
@@ -161,7 +161,7 @@ suit_ports widths links all distinct (port ∷ ports) within linked suits =
     )
 
 -- operands that are names are those names
-pub named_back : (links : List Link) (ports : List Port) → AreLinked links ports → map Name (map (name_to links) ports) ≡ map (operand_to links) ports
+pub named_back : (links : List PortLink) (ports : List Port) → AreLinked links ports → map Name (map (name_to links) ports) ≡ map (operand_to links) ports
 named_back links [] linked = refl
 named_back links (port ∷ ports) linked = rw (back (operand_to links port) linked.0.1, named_back links ports linked.1) refl
   where

@@ -12,7 +12,7 @@ use Rattle.av_base.proofs.Truths.{and_true, by_test}
 use Rattle.av_net.specs.declared.plan.CellKind.{CellKind}
 use Rattle.av_net.specs.Names.{clk, rst, names_of, AreDistinct}
 use Rattle.av_net.specs.Plans.{instance_names}
-use Rattle.av_net.specs.Grammar.{ModuleText, Link, Instantiation, Item, drive, widening, step, instance}
+use Rattle.av_net.specs.Grammar.{ModuleText, PortLink, Instantiation, Item, drive, widening, step, instance}
 use Rattle.av_net.specs.Rows.{Mention, of_module, declares, drives, links, mentioned, is_same, first_again, declared_names, instances_in, kind_for, driven_by_link, driven_names, link_mentions, item_mentions, mentions_of}
 use Rattle.av_net.proofs.Distinct.{append_distinct, cons_distinct}
 use Rattle.av_net.proofs.Tested.{distinct_tested}
@@ -171,7 +171,7 @@ all_declared : (names : List (List ℕ)) → flat_map declared_by (map declares 
 all_declared [] = refl
 all_declared (name ∷ names) = ap (λ more. name ∷ more) (all_declared names)
 
-links_declare : (kind : CellKind) (u : List ℕ) (ls : List Link) → flat_map declared_by (flat_map (link_mentions kind u) ls) ≡ []
+links_declare : (kind : CellKind) (u : List ℕ) (ls : List PortLink) → flat_map declared_by (flat_map (link_mentions kind u) ls) ≡ []
 links_declare kind u [] = refl
 links_declare kind u (l ∷ ls) =
     flat_map-append declared_by (link_mentions kind u l) (flat_map (link_mentions kind u) ls)
@@ -233,7 +233,7 @@ all_driven : (names : List (List ℕ)) → flat_map driven_at (map drives names)
 all_driven [] = refl
 all_driven (name ∷ names) = ap (λ more. name ∷ more) (all_driven names)
 
-links_drive : (kind : CellKind) (u : List ℕ) (ls : List Link) → flat_map driven_at (flat_map (link_mentions kind u) ls) ≡ flat_map (driven_by_link kind) ls
+links_drive : (kind : CellKind) (u : List ℕ) (ls : List PortLink) → flat_map driven_at (flat_map (link_mentions kind u) ls) ≡ flat_map (driven_by_link kind) ls
 links_drive kind u [] = refl
 links_drive kind u (l ∷ ls) =
     flat_map-append driven_at (link_mentions kind u l) (flat_map (link_mentions kind u) ls)
@@ -281,7 +281,7 @@ no_links : (u : List ℕ) (names : List (List ℕ)) → flat_map (linked_at u) (
 no_links u [] = refl
 no_links u (name ∷ names) = no_links u names
 
-pub own_links : (kind : CellKind) (u : List ℕ) (ls : List Link) → flat_map (linked_at u) (flat_map (link_mentions kind u) ls) ≡ ports_in ls
+pub own_links : (kind : CellKind) (u : List ℕ) (ls : List PortLink) → flat_map (linked_at u) (flat_map (link_mentions kind u) ls) ≡ ports_in ls
 own_links kind u [] = refl
 own_links kind u (l ∷ ls) =
     let same : bytes_eq u u ≡ true = (bytes_eq-Decides u u).1 refl in

@@ -20,7 +20,7 @@ use Rattle.av_net.specs.Meaning.{Widths, operand_width, EachOperand}
 use Rattle.av_net.specs.Names.{targets_of, registers_of, IsAmong}
 use Rattle.av_net.specs.Sound.{symbol_width, SuitsWidth, IsFitting, ComparesByOrder}
 use Rattle.av_net.specs.Lexemes.{Token}
-use Rattle.av_net.specs.Grammar.{Link, Item, drive, widening, step, instance, IsOperand, named, constant, IsLiteralAt, literal, IsOperation, plain, binary, signed, choice, selection, IsNextLink, IsItem, assignment, wide_assignment, at_an_edge, instantiation, IsKindItem, kind_assignment, kind_wide_assignment, AreMany, no_more, one_more}
+use Rattle.av_net.specs.Grammar.{PortLink, Item, drive, widening, step, instance, IsOperand, named, constant, IsLiteralAt, literal, IsOperation, plain, binary, signed, choice, selection, IsNextLink, IsItem, assignment, wide_assignment, at_an_edge, instantiation, IsKindItem, kind_assignment, kind_wide_assignment, AreMany, no_more, one_more}
 use Rattle.av_net.specs.Rows.{drives_of, steps_of, operands_of, is_in, first_from, first_some, wrong_operand, is_early, suits_width, suits}
 
 -- ---- lists
@@ -194,7 +194,7 @@ fit_literal (literal k l) = l.fits
 fit_widening : (d : Drive) {name : List ℕ} {by : ℕ} → d.operation ≡ operation.Widen name by → EachOperand IsFitting d.operation × ComparesByOrder d.operation
 fit_widening d {name = name} {by = by} e = subst (λ o. EachOperand IsFitting o × ComparesByOrder o) (sym e) (tt, tt)
 
-fit_links : {ts rest : List Token} {links : List Link} → AreMany IsNextLink ts rest links → AllByRecursion (λ link. IsFitting link.operand) links
+fit_links : {ts rest : List Token} {links : List PortLink} → AreMany IsNextLink ts rest links → AllByRecursion (λ link. IsFitting link.operand) links
 fit_links no_more = tt
 fit_links (one_more l many) = (fit_operand l.linked.operand, fit_links many)
 

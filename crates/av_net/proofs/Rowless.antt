@@ -23,7 +23,7 @@ use Rattle.av_net.specs.Names.{clk, rst, names_of, given_names, wire_names, all_
 use Rattle.av_net.specs.Sound.{SuitsWidth, IsFitting, ComparesByOrder}
 use Rattle.av_net.specs.Flat.{no_kind}
 use Rattle.av_net.specs.Plans.{SuitPorts, IsPlaced, instance_names, linked_names, part_names}
-use Rattle.av_net.specs.Grammar.{ModuleText, Declaration, wire, register, Link, Instantiation, Item, drive, widening, step, instance}
+use Rattle.av_net.specs.Grammar.{ModuleText, SignalDeclaration, wire, register, PortLink, Instantiation, Item, drive, widening, step, instance}
 use Rattle.av_net.specs.Rows.{wires_of, registers_in, drives_of, steps_of, module_of, declared_names, target_of, operands_of, is_in, first_some, kind_named, kind_number, kind_or, kind_for, operand_to, name_in, name_to, instance_of, instances_in, is_input_of, is_output_of, driven_by_link, driven_names, wrong_operand, wrong_output, wrong_link, wrong_instance, wrong_drive, wrong_in, wrong_in_module, unlinked_in, undriven_in_module, is_early, is_early_link, first_early, early_in_module, suits_port, selects_highest, suits_width, suits, unsuited_in_module, of_module, declares, first_again, mentions_of}
 use Rattle.av_net.proofs.Distinct.{apart, front_distinct, rest_distinct}
 use Rattle.av_net.proofs.Made.{IsMadeTop}
@@ -56,10 +56,10 @@ pub record IsPut (kinds : List CellKind) (m : Module) (x : Instantiation) (kind 
   pub links_once : AreDistinct (ports_in x.links)
   pub inputs_linked : (port : Port) → Contains kind.inputs port → Contains (ports_in x.links) port.name
   pub outputs_linked : (port : Port) → Contains kind.outputs port → Contains (ports_in x.links) port.name
-  pub inputs_read : (link : Link) → Contains x.links link → Contains (names_of kind.inputs) link.port → IsAmong (all_names m) link.operand
-  pub outputs_named : (link : Link) → Contains x.links link → Contains (names_of kind.outputs) link.port → IsNamed link.operand × IsAmong (wire_names m) link.operand
-  pub suited : (link : Link) → Contains x.links link → suits_port (width_of m) (kind.inputs ++ kind.outputs) link ≡ true
-  pub fits : (link : Link) → Contains x.links link → IsFitting link.operand
+  pub inputs_read : (link : PortLink) → Contains x.links link → Contains (names_of kind.inputs) link.port → IsAmong (all_names m) link.operand
+  pub outputs_named : (link : PortLink) → Contains x.links link → Contains (names_of kind.outputs) link.port → IsNamed link.operand × IsAmong (wire_names m) link.operand
+  pub suited : (link : PortLink) → Contains x.links link → suits_port (width_of m) (kind.inputs ++ kind.outputs) link ≡ true
+  pub fits : (link : PortLink) → Contains x.links link → IsFitting link.operand
 
 -- the kind of a name, and its number
 pub record IsNumbered (kinds : List CellKind) (name : List ℕ) (kind : CellKind) : Type 0 where
@@ -90,7 +90,7 @@ numbered (first ∷ kinds) name kind e = by_test (bytes_eq first.name name)
 
 module _ (m : Module) (kind : CellKind) (distinct : AreDistinct (names_of kind.inputs ++ names_of kind.outputs)) where
   -- what is linked to an input port may be read
-  input_link : (link : Link) → Contains (names_of kind.inputs) link.port → wrong_link (is_in (wire_names m)) (is_in (all_names m)) kind link ≡ None → IsAmong (all_names m) link.operand
+  input_link : (link : PortLink) → Contains (names_of kind.inputs) link.port → wrong_link (is_in (wire_names m)) (is_in (all_names m)) kind link ≡ None → IsAmong (all_names m) link.operand
   input_link link at e =
       let test : is_input_of kind link.port ≡ true = is_found link.port (names_of kind.inputs) at in
       let same : wrong_link (is_in (wire_names m)) (is_in (all_names m)) kind link ≡ wrong_operand (is_in (all_names m)) link.operand = rw test refl in
@@ -103,18 +103,18 @@ module _ (m : Module) (kind : CellKind) (distinct : AreDistinct (names_of kind.i
   output_operand port (operand.Literal width value) e = absurd cc
 
   -- what is linked to an output port is a wire or an output
-  output_link : (link : Link) → Contains (names_of kind.outputs) link.port → wrong_link (is_in (wire_names m)) (is_in (all_names m)) kind link ≡ None → IsNamed link.operand × IsAmong (wire_names m) link.operand
+  output_link : (link : PortLink) → Contains (names_of kind.outputs) link.port → wrong_link (is_in (wire_names m)) (is_in (all_names m)) kind link ≡ None → IsNamed link.operand × IsAmong (wire_names m) link.operand
   output_link link at e =
       let none : is_input_of kind link.port ≡ false = not_there link.port (names_of kind.inputs) (λ here. apart (names_of kind.inputs) (names_of kind.outputs) link.port distinct here at) in
       let test : is_output_of kind link.port ≡ true = is_found link.port (names_of kind.outputs) at in
       let same : wrong_link (is_in (wire_names m)) (is_in (all_names m)) kind link ≡ wrong_output (is_in (wire_names m)) link.port link.operand = rw (none, test) refl in
       output_operand link.port link.operand (sym same ∙ e)
 
-linked_port : (links : List Link) (names : List (List ℕ)) (name : List ℕ) → find (λ port. not (is_in (ports_in links) port)) names ≡ None → Contains names name → Contains (ports_in links) name
+linked_port : (links : List PortLink) (names : List (List ℕ)) (name : List ℕ) → find (λ port. not (is_in (ports_in links) port)) names ≡ None → Contains names name → Contains (ports_in links) name
 linked_port links names name e at =
     is_there name (ports_in links) (each_at (λ name. is_in (ports_in links) name ≡ true) names name (each_fails (is_in (ports_in links)) names e) at)
 
-suited_link : (widths : Widths) (ports : List Port) (links : List Link) → not (list_any (λ link. not (suits_port widths ports link)) links) ≡ true → (link : Link) → Contains links link → suits_port widths ports link ≡ true
+suited_link : (widths : Widths) (ports : List Port) (links : List PortLink) → not (list_any (λ link. not (suits_port widths ports link)) links) ≡ true → (link : PortLink) → Contains links link → suits_port widths ports link ≡ true
 suited_link widths ports links e link at =
     let none = none_of (λ link. not (suits_port widths ports link)) links (not_true (list_any (λ link. not (suits_port widths ports link)) links) e) in
     not_false (suits_port widths ports link) (each_at (λ link. not (suits_port widths ports link) ≡ false) links link none at)
@@ -174,7 +174,7 @@ module _ (kinds : List CellKind) (m : Module) (x : Instantiation) (is : IsPut ki
   driven_same name =
       count_linked name (kind_for kinds x).outputs x.links (rest_distinct (names_of (kind_for kinds x).inputs) (names_of (kind_for kinds x).outputs) is.ports_once) is.links_once outputs_linked
 
-  pub inputs_may : (P : Operand → Type 0) → ((link : Link) → Contains x.links link → Contains (names_of (kind_for kinds x).inputs) link.port → P link.operand) → AllByRecursion P (instance_of kinds x).inputs
+  pub inputs_may : (P : Operand → Type 0) → ((link : PortLink) → Contains x.links link → Contains (names_of (kind_for kinds x).inputs) link.port → P link.operand) → AllByRecursion P (instance_of kinds x).inputs
   inputs_may P each = operands_all P x.links (kind_for kinds x).inputs is.inputs_linked each
 
   pub instance_placed : IsPlaced kinds (width_of m) (instance_of kinds x)
@@ -289,7 +289,7 @@ module _ (kinds : List CellKind) (m : Module) where
   -- an input of an instance is known
   link_known : (known earlier : List (List ℕ)) (x : Instantiation) → Knows known earlier → IsPut kinds m x (kind_for kinds x)
       → list_any (is_early_link (is_in (wire_names m)) (is_in earlier) (kind_for kinds x)) x.links ≡ false
-      → (link : Link) → Contains x.links link → Contains (names_of (kind_for kinds x).inputs) link.port → IsAmong known link.operand
+      → (link : PortLink) → Contains x.links link → Contains (names_of (kind_for kinds x).inputs) link.port → IsAmong known link.operand
   link_known known earlier x k is e link at here =
       let test : is_input_of (kind_for kinds x) link.port ≡ true = is_found link.port (names_of (kind_for kinds x).inputs) here in
       let early : (is_input_of (kind_for kinds x) link.port && is_early (is_in (wire_names m)) (is_in earlier) link.operand) ≡ false =
@@ -337,7 +337,7 @@ module _ (kinds : List CellKind) (m : Module) where
 
 -- ---- the declarations of a module
 
-count_declared : (name : List ℕ) (ds : List Declaration) → count name (names_of (wires_of ds)) + count name (names_of (registers_in ds)) ≡ count name (declared_names ds)
+count_declared : (name : List ℕ) (ds : List SignalDeclaration) → count name (names_of (wires_of ds)) + count name (names_of (registers_in ds)) ≡ count name (declared_names ds)
 count_declared name [] = let none = count_none name in omega arith
 count_declared name (wire port ∷ ds) =
     let more = count_declared name ds in

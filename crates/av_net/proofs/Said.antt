@@ -31,7 +31,7 @@ use Rattle.av_net.proofs.Distinct.{apart, front_distinct, rest_distinct}
 use Rattle.av_net.proofs.Settles.{not_equal, names_distinct}
 use Rattle.av_net.proofs.InParts.{kind_sound}
 use Rattle.av_net.proofs.FlatTargets.{placed_at}
-use Rattle.av_net.specs.Grammar.{Text, ModuleText, wire, register, Link, Instantiation, Item, drive, widening, step, instance}
+use Rattle.av_net.specs.Grammar.{Text, ModuleText, wire, register, PortLink, Instantiation, Item, drive, widening, step, instance}
 
 -- an `assign`; that of a widening selects the highest bit
 abbrev pub said_by : Widths → Drive → Operation → Item
@@ -55,7 +55,7 @@ kind_said kind = record {
 }
 
 -- one link for each port
-abbrev pub links_said : List Port → List Operand → List Link
+abbrev pub links_said : List Port → List Operand → List PortLink
 links_said (port ∷ ports) (operand ∷ operands) = record { port = port.name; operand = operand } ∷ links_said ports operands
 links_said [] operands = []
 links_said (port ∷ ports) [] = []
@@ -151,7 +151,7 @@ found_at (kind ∷ kinds) (suc n) distinct lt =
 -- ---- links
 
 -- a link of another port is passed over
-passed_over : (link : Link) (links : List Link) (ports : List Port) → (Contains (names_of ports) link.port → ⊥)
+passed_over : (link : PortLink) (links : List PortLink) (ports : List Port) → (Contains (names_of ports) link.port → ⊥)
     → (map (operand_to (link ∷ links)) ports ≡ map (operand_to links) ports) × (map (name_to (link ∷ links)) ports ≡ map (name_to links) ports)
 passed_over link links [] none = (refl, refl)
 passed_over link links (port ∷ ports) none =
@@ -159,7 +159,7 @@ passed_over link links (port ∷ ports) none =
     let (a, b) = passed_over link links ports (λ at. none (more_among port.name link.port (names_of ports) at)) in
     (rw (other, a) refl, rw (other, b) refl)
 
-all_passed : (some : List Port) (operands : List Operand) (links : List Link) (ports : List Port) → ((name : List ℕ) → Contains (names_of some) name → Contains (names_of ports) name → ⊥)
+all_passed : (some : List Port) (operands : List Operand) (links : List PortLink) (ports : List Port) → ((name : List ℕ) → Contains (names_of some) name → Contains (names_of ports) name → ⊥)
     → map (name_to (links_said some operands ++ links)) ports ≡ map (name_to links) ports
 all_passed [] operands links ports none = refl
 all_passed (port ∷ some) [] links ports none = refl
@@ -167,7 +167,7 @@ all_passed (port ∷ some) (operand ∷ operands) links ports none =
     (passed_over (record { port = port.name; operand = operand }) (links_said some operands ++ links) ports (none port.name (0, omega arith, refl))).1
     ∙ all_passed some operands links ports (λ name at. none name (more_among port.name name (names_of some) at))
 
-operands_back : (widths : Widths) (ports : List Port) (operands : List Operand) (links : List Link) → AreDistinct (names_of ports) → SuitPorts widths operands ports
+operands_back : (widths : Widths) (ports : List Port) (operands : List Operand) (links : List PortLink) → AreDistinct (names_of ports) → SuitPorts widths operands ports
     → map (operand_to (links_said ports operands ++ links)) ports ≡ operands
 operands_back widths [] [] links distinct suits = refl
 operands_back widths [] (operand ∷ operands) links distinct suits = absurd suits

@@ -13,7 +13,7 @@ use Rattle.av_net.specs.Sound.{IsInOrder, IsSound}
 use Rattle.av_net.specs.Flat.{kind_module}
 use Rattle.av_net.specs.Plans.{instance_names, part_names, module_names}
 use Rattle.av_net.specs.Lexemes.{Token}
-use Rattle.av_net.specs.Grammar.{Text, ModuleText, Declaration, Item, drive, widening, step, instance, AreMany, no_more, one_more, IsKindDeclaration, kind_wire, IsKindItem, kind_assignment, kind_wide_assignment, IsKind, IsText}
+use Rattle.av_net.specs.Grammar.{Text, ModuleText, SignalDeclaration, Item, drive, widening, step, instance, AreMany, no_more, one_more, IsKindDeclaration, kind_wire, IsKindItem, kind_assignment, kind_wide_assignment, IsKind, IsText}
 use Rattle.av_net.specs.Rows.{is_in, declared_names, registers_in, drives_of, steps_of, module_of, kind_from, kinds_of, modules_of, instances_in, flat_text, of_module, declares, first_again, mentions_of, twice_from, first_repeated, top_names, part_twice, wrong_in_module, undriven_in_module, early_in_module, unsuited_in_module}
 use Rattle.av_net.specs.Designs.{HasNoRow}
 use Rattle.av_net.proofs.Distinct.{front_distinct, rest_distinct, cons_distinct, append_distinct}
@@ -85,7 +85,7 @@ pub record IsPlainKind (x : ModuleText) : Type 0 where
   pub steps : steps_of x.items ≡ []
   pub plain : ArePlain x.items
 
-wires_alone : {ts rest : List Token} {ds : List Declaration} → AreMany IsKindDeclaration ts rest ds → registers_in ds ≡ []
+wires_alone : {ts rest : List Token} {ds : List SignalDeclaration} → AreMany IsKindDeclaration ts rest ds → registers_in ds ≡ []
 wires_alone no_more = refl
 wires_alone (one_more (kind_wire p e) many) = wires_alone many
 

@@ -1,6 +1,6 @@
 /// What a token of a design text is. Its text tells which word, which symbol or which number.
 #[derive(Clone, Copy, Debug, PartialEq, Eq)]
-pub enum TokenKind {
+pub enum DesignTokenKind {
     Name,
     Reserved,
     /// The system function `$signed`.

@@ -97,7 +97,7 @@ fn made_piece(
     Ok(Piece { domain, tree })
 }
 
-// Puts all pieces of a tree behind others.
+// Appends all pieces of a tree.
 fn append_pieces(
     alloc: Global,
     vars: &[Var],

@@ -15,7 +15,7 @@ use av_base::{List, Memory};
 use av_poly::{Poly, append_rows};
 use std::alloc::Global;
 
-/// Puts the rows of a set, taken at the image under a map, behind others.
+/// Appends the rows of a set, taken at the image under a map.
 pub(crate) fn append_before(
     alloc: Global,
     set: &Poly,
@@ -32,7 +32,7 @@ pub(crate) fn append_before(
     append_rows(rows, before.rows.as_slice())
 }
 
-/// Puts the rows of a restriction behind others.
+/// Appends the rows of a restriction.
 pub(crate) fn append_under(
     alloc: Global,
     under: &[Map],

@@ -77,7 +77,7 @@ fn four_numbers(number: u128, right: &Tree, yes: &Tree, no: &Tree) -> (u128, u12
     (first, second, third, fourth)
 }
 
-// Puts the rows of a variable's domain, taken at the image under a map, behind others.
+// Appends the rows of a variable's domain, taken at the image under a map.
 fn append_read(
     alloc: Global,
     vars: &[Var],
@@ -107,7 +107,7 @@ fn reduction(op: Op, map: &Map, body: Box<Tree>, rows: List<Form>) -> Tree
     Tree::reduction(op, copy_map(map), body, set)
 }
 
-// The tree of the part with this number; its rows are put behind others.
+// The tree of the part with this number; its rows are appended.
 #[cycle(part_of)]
 fn part_of(
     alloc: Global,
@@ -169,7 +169,7 @@ fn part_of(
     }
 }
 
-// The tree of the part of a case with this number, which a branch has; its rows are put behind others.
+// The tree of the part of a case with this number, which a branch has; its rows are appended.
 #[cycle(part_of)]
 fn part_of_case(
     alloc: Global,

@@ -19,7 +19,7 @@ use Rattle.av_parse.specs.declared.fault.Fault.{Fault}
 use Rattle.av_parse.specs.declared.fault.Fault.TheVariants.{Syntax, Depth}
 use Rattle.av_parse.specs.inner.Reader.{◌>>=◌, begins, begins_symbol, same, expect, expect_symbol, expect_word, syntax}
 use Rattle.av_parse.specs.inner.ExpressionReader.{readers}
-use Rattle.av_parse.specs.inner.ProgramReader.{declarations_of, inputs_of, locals_of, sizes_of, equation_of, equations_of, semicolon_of, Header, header_of, system_of, ended, program_of}
+use Rattle.av_parse.specs.inner.ProgramReader.{declarations_of, inputs_of, locals_of, sizes_of, equation_of, equations_of, semicolon_of, SystemHeader, header_of, system_of, ended, program_of}
 use Rattle.av_parse.proofs.Follow.{same_self, kind_not, text_not, symbol_yes, expect_gives, symbol_gives, word_gives}
 use Rattle.av_parse.proofs.Takes.{equation_takes, equations_take}
 use Rattle.av_parse.proofs.CompleteIndex.{domain_complete}
@@ -43,27 +43,27 @@ use Rattle.av_parse.proofs.BeyondLevels.{all_beyond}
 -- ---- the header
 
 -- ")" ";", behind the outputs
-abbrev outputs_end : Text → DomainText → List Declaration → List Declaration → List Token → Result (Header × List Token) Fault
+abbrev outputs_end : Text → DomainText → List Declaration → List Declaration → List Token → Result (SystemHeader × List Token) Fault
 outputs_end x z ins outs ts = expect_symbol (codes ")") ts >>= λ d. expect_symbol (codes ";") d.1 >>= λ s. Ok (record { name = x; sizes = z; inputs = ins; outputs = outs }, s.1)
 
 -- declarations ")" ";", behind the second "("
-abbrev outputs_rest : Text → DomainText → List Declaration → List Token → Result (Header × List Token) Fault
+abbrev outputs_rest : Text → DomainText → List Declaration → List Token → Result (SystemHeader × List Token) Fault
 outputs_rest x z ins ts = declarations_of (length ts) ts >>= λ outs. outputs_end x z ins outs.0 outs.1
 
 -- "returns" "(" declarations ")" ";"
-abbrev returns_rest : Text → DomainText → List Declaration → List Token → Result (Header × List Token) Fault
+abbrev returns_rest : Text → DomainText → List Declaration → List Token → Result (SystemHeader × List Token) Fault
 returns_rest x z ins ts = expect_word (codes "returns") ts >>= λ r. expect_symbol (codes "(") r.1 >>= λ p. outputs_rest x z ins p.1
 
 -- ")" and so on, behind the inputs
-abbrev inputs_end : Text → DomainText → List Declaration → List Token → Result (Header × List Token) Fault
+abbrev inputs_end : Text → DomainText → List Declaration → List Token → Result (SystemHeader × List Token) Fault
 inputs_end x z ins ts = expect_symbol (codes ")") ts >>= λ c. returns_rest x z ins c.1
 
 -- "(" [ declarations ] ")" and so on
-abbrev signature_rest : Text → DomainText → List Token → Result (Header × List Token) Fault
+abbrev signature_rest : Text → DomainText → List Token → Result (SystemHeader × List Token) Fault
 signature_rest x z ts = expect_symbol (codes "(") ts >>= λ o. inputs_of o.1 >>= λ ins. inputs_end x z ins.0 ins.1
 
 -- [ ":" domain ] and so on, behind the name
-abbrev sizes_rest : Text → Place → List Token → Result (Header × List Token) Fault
+abbrev sizes_rest : Text → Place → List Token → Result (SystemHeader × List Token) Fault
 sizes_rest x p ts = sizes_of p ts >>= λ z. signature_rest x z.0 z.1
 
 outputs_end_within : (x : Text) (z : DomainText) (ins outs : List Declaration) (ts : List Token) → Within (length ts) (outputs_end x z ins outs ts)
@@ -85,9 +85,9 @@ sizes_rest_within : (x : Text) (p : Place) (ts : List Token) → Within (length 
 sizes_rest_within x p ts = bind_within _ (sizes_within p ts) (λ z. signature_within x z.0 z.1)
 
 -- the front ends in the header, or in the body behind it
-pub data Heads (w : Meant) (r : List Token) : Result (Header × List Token) Fault → Type 0 where
-  inside : {y : Result (Header × List Token) Fault} → MayWait w ⊎ MayEnd w 0 → Within (length r) y → Heads w r y
-  behind : {h : Header} {mid : List Token} → FrontBody w mid r → Heads w r (Ok (h, mid))
+pub data Heads (w : Meant) (r : List Token) : Result (SystemHeader × List Token) Fault → Type 0 where
+  inside : {y : Result (SystemHeader × List Token) Fault} → MayWait w ⊎ MayEnd w 0 → Within (length r) y → Heads w r y
+  behind : {h : SystemHeader} {mid : List Token} → FrontBody w mid r → Heads w r (Ok (h, mid))
 
 front_returns : {w : Meant} {ts r : List Token} → FrontReturns w ts r → (x : Text) (z : DomainText) (ins : List Declaration) → Heads w r (returns_rest x z ins ts)
 front_returns (fronts.at_returns {ts = ts} (parts.not_yet wait)) x z ins = inside (inl wait) (returns_within x z ins ts)
@@ -178,14 +178,14 @@ front_header (fronts.in_signature {x = v} {y = x} {ts = ts} {mid = mid} is name 
 -- ---- the body
 
 -- the system of its parts
-abbrev made : Header → List Declaration → List Equation → System
+abbrev made : SystemHeader → List Declaration → List Equation → System
 made h locs es = record { name = h.name; sizes = h.sizes; inputs = h.inputs; outputs = h.outputs; locals = locs; equations = es }
 
 -- "tel" [ ";" ], behind the equations
-abbrev body_end : Header → List Declaration → List Equation → List Token → Result (System × List Token) Fault
+abbrev body_end : SystemHeader → List Declaration → List Equation → List Token → Result (System × List Token) Fault
 body_end h locs es ts = expect_word (codes "tel") ts >>= λ t. Ok (made h locs es, semicolon_of t.1)
 
-body_end_within : (h : Header) (locs : List Declaration) (es : List Equation) (ts : List Token) → Within (length ts) (body_end h locs es ts)
+body_end_within : (h : SystemHeader) (locs : List Declaration) (es : List Equation) (ts : List Token) → Within (length ts) (body_end h locs es ts)
 body_end_within h locs es ts = bind_within _ (expect_with_within kind.Reserved (codes "tel") ts) (λ t. left (semicolon_within t.1))
 
 semicolon_take : {ts rest : List Token} → IsSemicolon ts rest → length rest ≤ length ts
@@ -197,11 +197,11 @@ levels_beyond n = subst (λ l. Beyond l 0 n (readers n)) (omega arith) (all_beyo
 
 module _ (n : ℕ) (some : 0 < n) where
   -- { equation } "tel" [ ";" ], behind "let"
-  abbrev body_equations : Header → List Declaration → List Token → Result (System × List Token) Fault
+  abbrev body_equations : SystemHeader → List Declaration → List Token → Result (System × List Token) Fault
   body_equations h locs ts = equations_of n (length ts) ts >>= λ es. body_end h locs es.0 es.1
 
   -- the variables and what follows
-  abbrev body_of : Header → List Token → Result (System × List Token) Fault
+  abbrev body_of : SystemHeader → List Token → Result (System × List Token) Fault
   body_of h ts = locals_of ts >>= λ locs. expect_word (codes "let") locs.1 >>= λ l. body_equations h locs.0 l.1
 
   -- expr ";", behind "="
@@ -292,23 +292,23 @@ module _ (n : ℕ) (some : 0 < n) where
       rw (equation_begins is) (spelt_bind _ (equation_spelt is) (omega arith) (λ a more.
       spelt_bind _ (equations_spelt others ends m (omega arith)) (le_same _) (λ es more. got more)))
 
-  equations_ahead : {w : Meant} {m : ℕ} (h : Header) (locs : List Declaration) (ts : List Token) → Reaches w n m (equations_of n (length ts) ts)
+  equations_ahead : {w : Meant} {m : ℕ} (h : SystemHeader) (locs : List Declaration) (ts : List Token) → Reaches w n m (equations_of n (length ts) ts)
       → Reaches w n m (body_equations h locs ts)
   equations_ahead h locs ts x = ahead _ x (λ es. body_end_within h locs es.0 es.1)
 
-  body_equations_within : (h : Header) (locs : List Declaration) (ts : List Token) → Within (length ts) (body_equations h locs ts)
+  body_equations_within : (h : SystemHeader) (locs : List Declaration) (ts : List Token) → Within (length ts) (body_equations h locs ts)
   body_equations_within h locs ts = bind_within _ (equations_within n (length ts) ts) (λ es. body_end_within h locs es.0 es.1)
 
-  let_within : (h : Header) (locs : List Declaration) (ts : List Token) → Within (length ts) (expect_word (codes "let") ts >>= λ l. body_equations h locs l.1)
+  let_within : (h : SystemHeader) (locs : List Declaration) (ts : List Token) → Within (length ts) (expect_word (codes "let") ts >>= λ l. body_equations h locs l.1)
   let_within h locs ts = bind_within _ (expect_with_within kind.Reserved (codes "let") ts) (λ l. body_equations_within h locs l.1)
 
-  body_within : (h : Header) (ts : List Token) → Within (length ts) (body_of h ts)
+  body_within : (h : SystemHeader) (ts : List Token) → Within (length ts) (body_of h ts)
   body_within h ts = bind_within _ (locals_within ts) (λ locs. let_within h locs.0 locs.1)
 
   tel_ends : (t : Token) (ts : List Token) → IsReserved (codes "tel") t → begins kind.Name (t ∷ ts) ≡ false
   tel_ends t ts is = kind_not kind.Reserved kind.Name t ts is.0 refl
 
-  front_body : {w : Meant} {ts r : List Token} → FrontBody w ts r → (h : Header) → Reaches w n (length r) (body_of h ts)
+  front_body : {w : Meant} {ts r : List Token} → FrontBody w ts r → (h : SystemHeader) → Reaches w n (length r) (body_of h ts)
   front_body (fronts.in_locals f) h = level (front_locals_ends f) (bind_within _ (front_locals f) (λ locs. let_within h locs.0 locs.1))
   front_body (fronts.at_let locs (parts.not_yet wait)) h = level (inl wait) (bind_within _ (front_locals (locals_front locs)) (λ locs. let_within h locs.0 locs.1))
   front_body (fronts.at_let {ds = ds} locs (parts.came {x = l} {ts = t} is e)) h =
@@ -329,7 +329,7 @@ module _ (n : ℕ) (some : 0 < n) where
 
   -- ---- the whole
 
-  heads_reach : {w : Meant} {r : List Token} {y : Result (Header × List Token) Fault} → Heads w r y → Reaches w n (length r) (y >>= λ h. body_of h.0 h.1)
+  heads_reach : {w : Meant} {r : List Token} {y : Result (SystemHeader × List Token) Fault} → Heads w r y → Reaches w n (length r) (y >>= λ h. body_of h.0 h.1)
   heads_reach (inside lv h) = ahead _ (level lv h) (λ x. body_within x.0 x.1)
   heads_reach (behind {h = h} body) = front_body body h
 

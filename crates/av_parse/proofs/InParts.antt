@@ -16,7 +16,7 @@ use Rattle.av_parse.specs.declared.fault.Stop.{Stop}
 use Rattle.av_parse.specs.inner.Reader.{◌>>=◌, Stops, with_front, expect, expect_symbol, expect_word}
 use Rattle.av_parse.specs.inner.IndexReader.{names_of, domain_of}
 use Rattle.av_parse.specs.inner.ExpressionReader.{Readers, readers, parenthesis_of, last_operand_of, reduced_of}
-use Rattle.av_parse.specs.inner.ProgramReader.{typing_of, width_of, declaration_rest_of, declaration_of, declarations_of, inputs_of, input_list_of, output_list_of, locals_of, sizes_of, index_names_of, right_side_of, equation_of, equations_of, definitions_of, semicolon_of, Header, header_of, system_of, end_of, program_of}
+use Rattle.av_parse.specs.inner.ProgramReader.{typing_of, width_of, declaration_rest_of, declaration_of, declarations_of, inputs_of, input_list_of, output_list_of, locals_of, sizes_of, index_names_of, right_side_of, equation_of, equations_of, definitions_of, semicolon_of, SystemHeader, header_of, system_of, end_of, program_of}
 use Rattle.av_parse.proofs.Lists.{stops_then}
 
 -- what follows the steps of a part follows the part
@@ -149,10 +149,10 @@ outputs_then ts f =
     step (expect_word (codes "returns") ts) _ _ f (λ r. step (expect_symbol (codes "(") r.1) _ _ f (λ p. step (declarations_of (length p.1) p.1) _ _ f (λ outs.
     step (expect_symbol (codes ")") outs.1) _ _ f (λ d. step (expect_symbol (codes ";") d.1) _ _ f (λ s. refl)))))
 
-abbrev headed_with : Token → DomainText → List Declaration → (List Declaration × List Token) → Result (Header × List Token) Fault
+abbrev headed_with : Token → DomainText → List Declaration → (List Declaration × List Token) → Result (SystemHeader × List Token) Fault
 headed_with x z ins outs = Ok (record { name = x.text; sizes = z; inputs = ins; outputs = outs.0 }, outs.1)
 
-abbrev outputs_with : Token → DomainText → (List Declaration × List Token) → Result (Header × List Token) Fault
+abbrev outputs_with : Token → DomainText → (List Declaration × List Token) → Result (SystemHeader × List Token) Fault
 outputs_with x z ins = output_list_of ins.1 >>= headed_with x z ins.0
 
 lists_then : (x : Token) (z : DomainText) (ts : List Token)
@@ -183,19 +183,19 @@ module _ (ts t0 t1 t2 : List Token) (w x : Token) (z : DomainText) (is : expect_
   header_at = rw (is, named, sized) (sym (lists_then x z t2))
 
   pub inputs_stop : (e : Stop) → Stops e (input_list_of t2) → Stops e (header_of ts)
-  inputs_stop e h = subst (λ (r : Result (Header × List Token) Fault). Stops e r) (sym header_at) (stops_then e (input_list_of t2) (outputs_with x z) h)
+  inputs_stop e h = subst (λ (r : Result (SystemHeader × List Token) Fault). Stops e r) (sym header_at) (stops_then e (input_list_of t2) (outputs_with x z) h)
 
   outputs_at : (ins : List Declaration) (t3 : List Token) → input_list_of t2 ≡ Ok (ins, t3) → header_of ts ≡ (output_list_of t3 >>= headed_with x z ins)
   outputs_at ins t3 given = let one : (input_list_of t2 >>= outputs_with x z) ≡ (output_list_of t3 >>= headed_with x z ins) = rw given refl in header_at ∙ one
 
   pub outputs_stop : (e : Stop) (ins : List Declaration) (t3 : List Token) → input_list_of t2 ≡ Ok (ins, t3) → Stops e (output_list_of t3) → Stops e (header_of ts)
-  outputs_stop e ins t3 given h = subst (λ (r : Result (Header × List Token) Fault). Stops e r) (sym (outputs_at ins t3 given)) (stops_then e (output_list_of t3) (headed_with x z ins) h)
+  outputs_stop e ins t3 given h = subst (λ (r : Result (SystemHeader × List Token) Fault). Stops e r) (sym (outputs_at ins t3 given)) (stops_then e (output_list_of t3) (headed_with x z ins) h)
 
-  pub header_done : (ins outs : List Declaration) (t3 t4 : List Token) (h : Header) → input_list_of t2 ≡ Ok (ins, t3) → output_list_of t3 ≡ Ok (outs, t4)
+  pub header_done : (ins outs : List Declaration) (t3 t4 : List Token) (h : SystemHeader) → input_list_of t2 ≡ Ok (ins, t3) → output_list_of t3 ≡ Ok (outs, t4)
       → h ≡ record { name = x.text; sizes = z; inputs = ins; outputs = outs } → header_of ts ≡ Ok (h, t4)
   header_done ins outs t3 t4 h given taken made =
       let one : (output_list_of t3 >>= headed_with x z ins) ≡ Ok (record { name = x.text; sizes = z; inputs = ins; outputs = outs }, t4) = rw taken refl in
-      outputs_at ins t3 given ∙ one ∙ ap (λ (y : Header). Ok (y, t4)) (sym made)
+      outputs_at ins t3 given ∙ one ∙ ap (λ (y : SystemHeader). Ok (y, t4)) (sym made)
 
 -- ---- systems
 
@@ -205,7 +205,7 @@ unfolding definitions_of
 definitions_then n ts f =
     step (expect_word (codes "let") ts) _ _ f (λ l. step (equations_of n (length l.1) l.1) _ _ f (λ es. step (expect_word (codes "tel") es.1) _ _ f (λ t. refl)))
 
-abbrev system_with : Header → List Declaration → (List Equation × List Token) → Result (System × List Token) Fault
+abbrev system_with : SystemHeader → List Declaration → (List Equation × List Token) → Result (System × List Token) Fault
 system_with h locs es = Ok (record { name = h.name; sizes = h.sizes; inputs = h.inputs; outputs = h.outputs; locals = locs; equations = es.0 }, semicolon_of es.1)
 
 module _ (n : ℕ) (ts : List Token) where
@@ -213,11 +213,11 @@ module _ (n : ℕ) (ts : List Token) where
   unfolding system_of
   header_stop e h = stops_then e _ _ h
 
-  pub locals_stop : (e : Stop) (h : Header) (t0 : List Token) → header_of ts ≡ Ok (h, t0) → Stops e (locals_of t0) → Stops e (system_of n ts)
+  pub locals_stop : (e : Stop) (h : SystemHeader) (t0 : List Token) → header_of ts ≡ Ok (h, t0) → Stops e (locals_of t0) → Stops e (system_of n ts)
   unfolding system_of
   locals_stop e h t0 is stops = rw is (stops_then e _ _ stops)
 
-module _ (n : ℕ) (ts : List Token) (h : Header) (locs : List Declaration) (t0 t1 : List Token) (is : header_of ts ≡ Ok (h, t0)) (given : locals_of t0 ≡ Ok (locs, t1)) where
+module _ (n : ℕ) (ts : List Token) (h : SystemHeader) (locs : List Declaration) (t0 t1 : List Token) (is : header_of ts ≡ Ok (h, t0)) (given : locals_of t0 ≡ Ok (locs, t1)) where
   system_at : system_of n ts ≡ (definitions_of n t1 >>= system_with h locs)
   unfolding system_of
   system_at = rw (is, given) (sym (definitions_then n t1 (system_with h locs)))

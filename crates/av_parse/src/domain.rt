@@ -16,7 +16,7 @@ use std::alloc::Global;
 /// A list of a comparison has at most this many members behind its first.
 const FURTHER_MEMBERS: usize = 7;
 
-// One member on the left with each on the right, put behind these constraints.
+// One member on the left with each on the right, appended to these constraints.
 fn compare_with_each(
     alloc: Global,
     found: &mut List<Constraint>,
@@ -119,7 +119,7 @@ impl<'t, 'a> Cursor<'t, 'a> {
         }
     }
 
-    // `relation side { relation side }`, behind a side, put behind these constraints.
+    // `relation side { relation side }`, behind a side, appended to these constraints.
     fn chain(&mut self, found: &mut List<Constraint>, first: List<IndexExpr>) -> Result<(), Stop>
         ensures { Gives (λ _. (found.new, views self.new.rest.now)) result (with_front found.old (chain_of (length (views self.old.rest.now)) first (views self.old.rest.now))) }
     {
@@ -144,7 +144,7 @@ impl<'t, 'a> Cursor<'t, 'a> {
         Err(self.syntax())
     }
 
-    // `side relation side { relation side }`, put behind these constraints.
+    // `side relation side { relation side }`, appended to these constraints.
     #[tactic(auto, using(crate::proofs::Lists::stops_then), unfolding(crate::specs::inner::IndexReader::constraint_of))]
     fn constraint(&mut self, found: &mut List<Constraint>) -> Result<(), Stop>
         ensures { Gives (λ _. (found.new, views self.new.rest.now)) result (with_front found.old (constraint_of (views self.old.rest.now))) }

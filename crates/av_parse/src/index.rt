@@ -139,7 +139,7 @@ impl<'t, 'a> Cursor<'t, 'a> {
         }
     }
 
-    // `{ ( "+" or "-" ) term }`, put behind these terms.
+    // `{ ( "+" or "-" ) term }`, appended to these terms.
     fn more_terms(&mut self, terms: &mut List<Term>) -> Result<(), Stop>
         ensures { Gives (λ _. (terms.new, views self.new.rest.now)) result (with_front terms.old (terms_of (length (views self.old.rest.now)) (views self.old.rest.now))) }
     {

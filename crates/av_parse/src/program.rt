@@ -19,14 +19,14 @@ use std::alloc::Global;
 
 /// The name, the sizes, the inputs and the outputs of a system.
 #[derive(Drop)]
-struct Header {
+struct SystemHeader {
     name: Name,
     sizes: DomainText,
     inputs: List<Declaration>,
     outputs: List<Declaration>,
 }
 
-// One declaration for each name, put behind these.
+// One declaration for each name, appended to these.
 fn declare(
     alloc: Global,
     found: &mut List<Declaration>,
@@ -54,10 +54,10 @@ fn headed(
     sizes: DomainText,
     inputs: List<Declaration>,
     outputs: List<Declaration>,
-) -> Result<Header, Memory>
+) -> Result<SystemHeader, Memory>
     ensures { IfOk result (λ h. view_header h ≡ record { name = (token_view name.entry).text; sizes = sizes; inputs = inputs; outputs = outputs }) }
 {
-    Ok(Header {
+    Ok(SystemHeader {
         name: Name::from_ascii(alloc, name.text)?,
         sizes,
         inputs,
@@ -99,7 +99,7 @@ impl<'t, 'a> Cursor<'t, 'a> {
         self.width()
     }
 
-    // `domain "of" width`, behind these names and the `:`, put behind these declarations.
+    // `domain "of" width`, behind these names and the `:`, appended to these declarations.
     fn declaration_rest(
         &mut self,
         names: &[Token<'a>],
@@ -113,7 +113,7 @@ impl<'t, 'a> Cursor<'t, 'a> {
         Ok(())
     }
 
-    // `names ":" domain "of" width`, put behind these declarations.
+    // `names ":" domain "of" width`, appended to these declarations.
     fn declaration(&mut self, found: &mut List<Declaration>) -> Result<(), Stop>
         ensures { Gives (λ _. (found.new, views self.new.rest.now)) result (with_front found.old (declaration_of (views self.old.rest.now))) }
     {
@@ -299,7 +299,7 @@ impl<'t, 'a> Cursor<'t, 'a> {
     }
 
     // What stands before the locals.
-    fn header(&mut self) -> Result<Header, Stop>
+    fn header(&mut self) -> Result<SystemHeader, Stop>
         ensures { Gives (λ h. (view_header h, views self.new.rest.now)) result (header_of (views self.old.rest.now)) }
     {
         self.word(b"system")?;

@@ -38,7 +38,7 @@ fn stays(map: &Map, w: &Point) -> bool
     true
 }
 
-// Puts the points behind others, each with one more entry in front.
+// Appends the points, each with one more entry in front.
 fn append_longer(x: i64, ws: &[Point], to: &mut List<Point>) -> Result<(), Memory>
     requires { All (λ w. length w < 4) ws.now }
     ensures { OnOk result (to.new ≡ to.old ++ map (λ w. x ∷ w) ws.now) }

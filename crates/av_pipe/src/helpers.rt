@@ -24,7 +24,7 @@ fn number_after(number: usize, var: &Var) -> usize
     if var.is_node() { number + 1 } else { number }
 }
 
-// Puts the helpers of a variable behind others, where there is a time for the node of this number.
+// Appends the helpers of a variable, where there is a time for the node of this number.
 fn variable_helpers(
     alloc: Global,
     place: u32,

@@ -14,7 +14,7 @@ use av_base::{List, Memory, Point};
 use av_flat::{Helper, Piece, Tree, copy_map};
 use std::alloc::Global;
 
-// Puts the maps of the references in a tree behind others, in order.
+// Appends the maps of the references in a tree, in order.
 fn append_maps(tree: &Tree, maps: &mut List<Map>) -> Result<(), Memory>
     ensures { OnOk result (maps.new ≡ maps.old ++ maps_of (view tree.now)) }
 {
@@ -40,7 +40,7 @@ fn append_maps(tree: &Tree, maps: &mut List<Map>) -> Result<(), Memory>
     }
 }
 
-// Puts the helper of a reference with this map behind others, where it is moved.
+// Appends the helper of a reference with this map, where it is moved.
 fn reference_helper(
     place: u32,
     piece: u32,
@@ -65,7 +65,7 @@ fn reference_helper(
     Ok(())
 }
 
-// Puts the helpers of references with these maps behind others.
+// Appends the helpers of references with these maps.
 fn map_helpers(
     place: u32,
     piece: u32,
@@ -85,7 +85,7 @@ fn map_helpers(
     Ok(())
 }
 
-// Puts the helpers of the references in a tree behind others.
+// Appends the helpers of the references in a tree.
 fn tree_helpers(
     alloc: Global,
     place: u32,
@@ -106,7 +106,7 @@ fn tree_helpers(
     map_helpers(place, piece, linear, points, maps.as_slice(), helpers)
 }
 
-/// Puts the helpers of the references of a variable's pieces behind others.
+/// Appends the helpers of the references of a variable's pieces.
 pub(crate) fn piece_helpers(
     alloc: Global,
     place: u32,

@@ -54,7 +54,7 @@ pub(crate) fn each_holds(rows: &[Form], z: &[i64]) -> bool
     true
 }
 
-/// Puts rows behind others.
+/// Appends rows.
 pub fn append_rows(rows: &mut List<Form>, more: &[Form]) -> Result<(), Memory>
     ensures { OnOk result (rows.new ≡ rows.old ++ more.now) }
 {

@@ -17,7 +17,7 @@ use Rattle.av_flat.specs.Nodes.{nodes}
 use Rattle.av_flat.specs.Schedules.{IsLinearPart}
 use Rattle.av_flat.specs.Broadcasts.{Reference, along, is_broadcast, is_moved}
 use Rattle.av_sched.specs.declared.price.Price.{Price}
-use Rattle.av_sched.specs.declared.price.Best.{Best}
+use Rattle.av_sched.specs.declared.price.PricedChoice.{PricedChoice}
 use Rattle.av_sched.specs.Offsets.{part}
 use Rattle.av_sched.specs.Choices.{AreLinearParts}
 use Rattle.av_sched.specs.Order.{references_of, left_still, size_of, cost, IsLess, entry_rank}
@@ -168,7 +168,7 @@ module _ (s : FlatSystem) where
       above_not v d w b (map entry_rank _) (map entry_rank _)
       (⊎_elim (λ h. inl (omega (arith, h, low, bl))) (λ h. let p = h.0 in let q = h.1 in inr (omega (arith, p, low, bl), omega (arith, q, low', bs))) above) less
 
-  pub above_barred : (c : ℕ) (component : List ℕ) (k : ℕ) (linear : List Point) (spent rest : Price) (best : Option Best) → IsSpent s linear (take k component) spent → IsFloor s c (drop k component) rest → IsRated s component best
+  pub above_barred : (c : ℕ) (component : List ℕ) (k : ℕ) (linear : List Point) (spent rest : Price) (best : Option PricedChoice) → IsSpent s linear (take k component) spent → IsFloor s c (drop k component) rest → IsRated s component best
       → IsAbove spent rest best → IsBarred s c component k linear (known best)
   above_barred c component k linear spent rest None h floor rated above = absurd above
   above_barred c component k linear spent rest (Some best) h floor rated above = λ other are agrees f less. dear_later c component k linear best.parts.items spent rest best.price h floor rated above other are agrees less

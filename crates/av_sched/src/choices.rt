@@ -11,8 +11,8 @@ ghost use Rattle.av_sched.specs.inner.Walks.{choices_in, node_at, IsChoice, IsFe
 
 use crate::arc::{least, settles};
 use crate::leaf::{arcs_inside, no_offsets};
-use crate::plan::{Plan, plan_of};
-use crate::pool::{Room, learn, witness_arcs};
+use crate::plan::{SearchPlan, plan_of};
+use crate::pool::{Scratch, learn, witness_arcs};
 use crate::price::Price;
 use crate::witness::Witness;
 use av_base::{Memory, Point};
@@ -28,7 +28,7 @@ pub(crate) struct Choices<'a> {
     edges: &'a [Edge],
     reach: Reach,
     component: &'a [u32],
-    plan: Plan,
+    plan: SearchPlan,
 }
 
 impl<'a> Model for Choices<'a> {
@@ -131,7 +131,7 @@ impl<'a> Choices<'a> {
         level: usize,
         linear: &[Point],
         pool: &[Witness],
-        room: &mut Room,
+        scratch: &mut Scratch,
     ) -> Result<bool, Memory>
         requires linear { IsChoice self.now linear.now }
         requires pool { All (IsWitness self.now.edges self.now.component) pool.now }
@@ -143,9 +143,9 @@ impl<'a> Choices<'a> {
             level,
             linear,
             pool,
-            &mut room.arcs,
+            &mut scratch.arcs,
         )?;
-        let settled = settles(&room.arcs, &mut room.off, &mut room.old, level)?;
+        let settled = settles(&scratch.arcs, &mut scratch.off, &mut scratch.old, level)?;
         Ok(!settled)
     }
 

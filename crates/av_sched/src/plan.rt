@@ -17,14 +17,19 @@ use std::alloc::Global;
 /// What is known of a component before the walk: the linear parts that each node can have and what each costs, and the least
 /// that the last nodes can cost, for each number of them.
 #[derive(Debug, Drop)]
-pub struct Plan {
+pub struct SearchPlan {
     pub lists: List<List<Point>>,
     pub prices: List<List<Price>>,
     pub floors: Vec<Price>,
 }
 
 /// What the walk through the choices of a component needs to know before.
-pub fn plan_of(alloc: Global, flat: &Flat, reach: Reach, component: &[u32]) -> Result<Plan, Memory>
+pub fn plan_of(
+    alloc: Global,
+    flat: &Flat,
+    reach: Reach,
+    component: &[u32],
+) -> Result<SearchPlan, Memory>
     requires chained { IsChained (view_system flat.now) }
     requires within { All (λ n. n < length (nodes (view_system flat.now))) component.now }
     ensures lists { IfOk result (λ plan.
@@ -39,7 +44,7 @@ pub fn plan_of(alloc: Global, flat: &Flat, reach: Reach, component: &[u32]) -> R
     let lists = lists_of(alloc, flat, reach, component)?;
     let prices = prices_of(alloc, flat, component, lists.as_slice())?;
     let floors = floors_of(alloc, prices.as_slice())?;
-    Ok(Plan {
+    Ok(SearchPlan {
         lists,
         prices,
         floors,

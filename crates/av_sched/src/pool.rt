@@ -14,7 +14,7 @@ use std::alloc::Global;
 
 /// Memory that the tests use again and again.
 #[derive(Debug, Drop)]
-pub struct Room {
+pub struct Scratch {
     pub arcs: Vec<Arc>,
     pub off: Vec<i64>,
     pub old: Vec<i64>,

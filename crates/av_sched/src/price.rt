@@ -14,7 +14,7 @@ pub struct Price {
 
 // A feasible choice, and what it costs.
 #[derive(Debug, Drop)]
-pub(crate) struct Best {
+pub(crate) struct PricedChoice {
     pub parts: Vec<Point>,
     pub price: Price,
 }
@@ -71,7 +71,7 @@ pub fn is_above(a: Price, b: Price) -> bool
 }
 
 /// Whether what was spent and the least of the rest are above the price of the best choice.
-pub(crate) fn is_dear(spent: Price, rest: Price, best: &Option<Best>) -> bool
+pub(crate) fn is_dear(spent: Price, rest: Price, best: &Option<PricedChoice>) -> bool
     ensures { IsTrue result → IsAbove spent rest best.now }
 {
     match best {

@@ -12,8 +12,8 @@ ghost use Rattle.av_sched.specs.inner.Walks.{walk_at, part_at, with_part, IsInSy
 use crate::choices::Choices;
 use crate::cost::ranks_of;
 use crate::part::is_less;
-use crate::pool::Room;
-use crate::price::{Best, Price, is_dear, with_more};
+use crate::pool::Scratch;
+use crate::price::{Price, PricedChoice, is_dear, with_more};
 use crate::witness::Witness;
 use av_base::{Memory, Point};
 use av_depend::copy_point;
@@ -59,8 +59,8 @@ pub(crate) struct Walk<'a> {
     linear: Vec<Point>,
     // Witnesses by which most choices are seen not to be feasible.
     pool: Vec<Witness>,
-    room: Room,
-    best: Option<Best>,
+    scratch: Scratch,
+    best: Option<PricedChoice>,
 }
 
 impl<'a> Model for Walk<'a> {
@@ -91,7 +91,7 @@ impl<'a> Walk<'a> {
             choices,
             linear,
             pool: Vec::new(alloc),
-            room: Room {
+            scratch: Scratch {
                 arcs: Vec::new(alloc),
                 off: Vec::new(alloc),
                 old: Vec::new(alloc),
@@ -143,7 +143,7 @@ impl<'a> Walk<'a> {
             return Ok(true);
         }
         self.choices
-            .is_forbidden(level, &self.linear, &self.pool, &mut self.room)
+            .is_forbidden(level, &self.linear, &self.pool, &mut self.scratch)
     }
 
     // Whether the choice comes before the best one so far.
@@ -178,7 +178,7 @@ impl<'a> Walk<'a> {
         let linear = self.linear.as_slice();
         if choices.is_feasible(alloc, linear)? {
             let parts = copy_points(alloc, linear)?;
-            self.best = Some(Best {
+            self.best = Some(PricedChoice {
                 parts,
                 price: spent,
             });

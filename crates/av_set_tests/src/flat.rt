@@ -17,12 +17,12 @@ use std::test::Fail;
 
 // A system that shows its word wherever it is asked, and how often it was marked, which it does not show.
 #[derive(Debug, Drop)]
-struct Cell {
+struct MarkedWord {
     word: u32,
     marks: u32,
 }
 
-impl Meant for Cell {
+impl Meant for MarkedWord {
     ghost use Rattle.std.specs.Prelude.{◌≡◌, []};
 
     ghost shows = { λ cell x name z w. w ≡ cell.word };
@@ -40,9 +40,9 @@ impl Pass for Mark {
     ghost use Rattle.std.specs.Prelude.{◌≡◌, ⊤};
     ghost use Rattle.std.proofs.Common.{sym, ◌∙◌};
 
-    type In = Cell;
+    type In = MarkedWord;
 
-    type Out = Cell;
+    type Out = MarkedWord;
 
     type Fault = u32;
 
@@ -52,11 +52,11 @@ impl Pass for Mark {
 
     ghost refuses = { λ from fault. fault ≡ from.word };
 
-    fn run(&self, _alloc: Global, from: &Cell) -> Result<Cell, u32> {
+    fn run(&self, _alloc: Global, from: &MarkedWord) -> Result<MarkedWord, u32> {
         if from.marks >= self.most {
             return Err(from.word);
         }
-        Ok(Cell {
+        Ok(MarkedWord {
             word: from.word,
             marks: from.marks + 1,
         })
@@ -109,8 +109,8 @@ fn marks(most: u32) -> Mark {
     Mark { most }
 }
 
-fn unmarked() -> Cell {
-    Cell { word: 5, marks: 0 }
+fn unmarked() -> MarkedWord {
+    MarkedWord { word: 5, marks: 0 }
 }
 
 // Any pass on any system: what it answers shows the same.
@@ -128,7 +128,7 @@ fn both_passes_run(rt: HostRuntime) -> Result<(), Fail> {
         second: marks(2),
     };
     let to = through(rt.alloc(), &both, &unmarked());
-    assert!(rt; matches!(to, Ok(Cell { word: 5, marks: 2 })));
+    assert!(rt; matches!(to, Ok(MarkedWord { word: 5, marks: 2 })));
     Ok(())
 }
 
@@ -169,7 +169,7 @@ fn three(first: u32, second: u32, third: u32) -> Then<Then<Mark, Mark>, Mark> {
 fn two_passes_feed_a_third(rt: HostRuntime) -> Result<(), Fail> {
     let alloc = rt.alloc();
     let all = three(1, 2, 3).run(alloc, &unmarked());
-    assert!(rt; matches!(all, Ok(Cell { word: 5, marks: 3 })));
+    assert!(rt; matches!(all, Ok(MarkedWord { word: 5, marks: 3 })));
     let second = three(1, 1, 3).run(alloc, &unmarked());
     assert!(rt; matches!(second, Err(ThenFault::First(ThenFault::Second(5)))));
     let third = three(1, 2, 2).run(alloc, &unmarked());
@@ -286,7 +286,7 @@ fn branches(alloc: Global) -> Result<List<Tree>, Memory> {
     Ok(branches)
 }
 
-// Puts a piece whose tree has each form behind others.
+// Appends a piece whose tree has each form.
 fn push_piece(alloc: Global, pieces: &mut List<Piece>) -> Result<(), Memory> {
     let domain = three_points(alloc)?;
     let branches = branches(alloc)?;

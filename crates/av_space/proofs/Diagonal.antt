@@ -20,7 +20,7 @@ use Rattle.av_space.specs.declared.cells.Cell.{Cell}
 use Rattle.av_space.specs.declared.cells.Link.{Link}
 use Rattle.av_space.specs.Coordinates.{Placing, along}
 use Rattle.av_space.specs.Occupancy.{Occupies, IsUsed, IsCellBefore, AreCells, Computes}
-use Rattle.av_space.specs.Taps.{Tap, Place, taps, node_place, IsTapped, each}
+use Rattle.av_space.specs.Taps.{Tap, ReadingPlace, taps, node_place, IsTapped, each}
 use Rattle.av_space.specs.Links.{IsStretch, AreLinks, delay_count}
 use Rattle.av_space.specs.Ports.{output_cells}
 
@@ -180,7 +180,7 @@ outputs_are = refl
 
 -- ---- the link
 
-abbrev place_read : Place
+abbrev place_read : ReadingPlace
 place_read = record { piece = 2; site = 0; tree = reference 1 back }
 
 one_tap : taps system [] (node_place system 0) d ≡ record { place = place_read; way = each } ∷ []

@@ -29,7 +29,7 @@ use Rattle.av_space.specs.declared.cells.InPort.{InPort}
 use Rattle.av_space.specs.declared.layout.Slot.{Slot}
 use Rattle.av_space.specs.declared.ports.Ports.{Ports as Found}
 use Rattle.av_space.specs.Occupancy.{Computes}
-use Rattle.av_space.specs.Taps.{node_of, node_place, helper_at, Handing, IsReadAt}
+use Rattle.av_space.specs.Taps.{node_of, node_place, helper_at, Pipeline, IsReadAt}
 use Rattle.av_space.specs.Ports.{IsFed, IsPort, IsPortBefore, ArePorts, by_node, by_piece, by_site, by_cell}
 use Rattle.av_space.specs.Listings.{input_name, InLine, IsInLine, AreInLines}
 use Rattle.av_space.specs.Layouts.{IsSlot, AreSlots}
@@ -40,7 +40,7 @@ use Rattle.av_base.proofs.Lists.{some_is, place_in}
 
 -- ---- entries
 
-pub entered_reads : (h : Option Handing) (piece : Piece) (z : Point) → IsTrue (is_entered piece.domain (direction_of h) z) → IsTrue (has piece.domain z) × IsReadAt h piece z
+pub entered_reads : (h : Option Pipeline) (piece : Piece) (z : Point) → IsTrue (is_entered piece.domain (direction_of h) z) → IsTrue (has piece.domain z) × IsReadAt h piece z
 entered_reads None piece z t = (t, tt)
 entered_reads (Some h) piece z t =
     let p = both_true (has piece.domain z) (not (has piece.domain (before z h.direction))) t in
@@ -50,7 +50,7 @@ entered_reads (Some h) piece z t =
     never true t u = absurd cc
     never false t u = absurd cc
 
-pub reads_entered : (h : Option Handing) (piece : Piece) (z : Point) → IsTrue (has piece.domain z) → IsReadAt h piece z → IsTrue (is_entered piece.domain (direction_of h) z)
+pub reads_entered : (h : Option Pipeline) (piece : Piece) (z : Point) → IsTrue (has piece.domain z) → IsReadAt h piece z → IsTrue (is_entered piece.domain (direction_of h) z)
 reads_entered None piece z t r = t
 reads_entered (Some h) piece z t r = both_hold (has piece.domain z) (not (has piece.domain (before z h.direction))) t (none (has piece.domain (before z h.direction)) refl)
   where

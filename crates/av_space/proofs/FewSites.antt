@@ -17,7 +17,7 @@ use Rattle.av_flat.specs.Nodes.{nodes, IsComputation}
 use Rattle.av_space.specs.declared.cells.Link.{Link}
 use Rattle.av_space.specs.declared.layout.Layout.{Layout}
 use Rattle.av_space.specs.Coordinates.{Placing}
-use Rattle.av_space.specs.Taps.{Handing, helper_at, Place, Tap, node_place, places_in, places_from, taps_by, taps_at, is_own, all_taps, taps}
+use Rattle.av_space.specs.Taps.{Pipeline, helper_at, ReadingPlace, Tap, node_place, places_in, places_from, taps_by, taps_at, is_own, all_taps, taps}
 use Rattle.av_depend.specs.ComputedPlaces.{computed_at}
 use Rattle.av_space.specs.Links.{AreLinks}
 use Rattle.av_space.specs.Quantities.{size, Use, IsUse, IsOperatorCount}
@@ -46,23 +46,23 @@ few_places_of k (p ∷ pieces) =
 
 -- ---- taps and places
 
-two_by : (b : Bool) (o : Option Handing) (p : Place) → length (taps_by b o p) ≤ 2
+two_by : (b : Bool) (o : Option Pipeline) (p : ReadingPlace) → length (taps_by b o p) ≤ 2
 two_by true None p = omega arith
 two_by true (Some h) p = omega arith
 two_by false None p = omega arith
 two_by false (Some h) p = omega arith
 
-two_at : (s : FlatSystem) (hs : List Helper) (own : ℕ) (t : Tree) (p : Place) → length (taps_at s hs own t p) ≤ 2
+two_at : (s : FlatSystem) (hs : List Helper) (own : ℕ) (t : Tree) (p : ReadingPlace) → length (taps_at s hs own t p) ≤ 2
 two_at s hs own (reference place m) p = two_by (computed_at (slice_get s.variables place)) (helper_at hs own p.piece p.site) p
 two_at s hs own (pick place choices n) p = two_by (computed_at (slice_get s.variables place)) None p
 two_at s hs own _ p = omega arith
 
-few_taps : (s : FlatSystem) (hs : List Helper) (own : ℕ) (ps : List Place) → length (flat_map (λ (p : Place). taps_at s hs own p.tree p) ps) ≤ 2 * length ps
+few_taps : (s : FlatSystem) (hs : List Helper) (own : ℕ) (ps : List ReadingPlace) → length (flat_map (λ (p : ReadingPlace). taps_at s hs own p.tree p) ps) ≤ 2 * length ps
 few_taps s hs own [] = omega arith
 few_taps s hs own (p ∷ ps) =
     let a = two_at s hs own p.tree p in
     let b = few_taps s hs own ps in
-    let e = length-append (taps_at s hs own p.tree p) (flat_map (λ (q : Place). taps_at s hs own q.tree q) ps) in
+    let e = length-append (taps_at s hs own p.tree p) (flat_map (λ (q : ReadingPlace). taps_at s hs own q.tree q) ps) in
     omega (arith, a, b, e)
 
 few_kept : {X : Type 0} (test : X → Bool) (xs : List X) → length (filter test xs) ≤ length xs

@@ -15,7 +15,7 @@ use Rattle.av_flat.specs.Broadcasts.{references, lists_of, is_zero, stays, along
 use Rattle.av_flat.specs.Chained.{IsOfPartial, IsChainedPiece, IsChainedVariable}
 use Rattle.av_flat.specs.Legal.{IsMoving, IsLegal}
 use Rattle.av_pipe.proofs.Searching.{small_directions}
-use Rattle.av_space.specs.Taps.{Handing, helper_at, Place, places_in, places_from, Way, each, entries, handed, Tap, taps_by, taps_at, is_own, all_taps, taps}
+use Rattle.av_space.specs.Taps.{Pipeline, helper_at, ReadingPlace, places_in, places_from, Way, each, entries, handed, Tap, taps_by, taps_at, is_own, all_taps, taps}
 use Rattle.av_depend.specs.ComputedPlaces.{computed_at}
 use Rattle.av_space.specs.inner.Readings.{IsReadable, IsFineTap}
 use Rattle.av_space.proofs.Elements.{each_at, at_index, in_range}
@@ -30,7 +30,7 @@ in_signatures [] place n e = absurd cc
 in_signatures (v ∷ vs) zero n e = omega arith
 in_signatures (v ∷ vs) (suc place) n e = let h = in_signatures vs place n e in omega (arith, h)
 
-abbrev IsOfPiece : ℕ → ℕ → ℕ → Place → Type 0
+abbrev IsOfPiece : ℕ → ℕ → ℕ → ReadingPlace → Type 0
 IsOfPiece k n count p = (p.piece ≡ k) × IsReadable n count p.tree
 
 readable : (vs : List Signature) (width n k i : ℕ) (t : Tree) → Fits vs n t → EachPart HasSmallRows t → EachPart (IsOfPartial vs width) t → AllByRecursion (IsOfPiece k n (length vs)) (places_in k i t)
@@ -57,7 +57,7 @@ readable vs width n k i (dependence m t) fits small partial = tt
 readable vs width n k i (reduction o m t set) fits small partial = tt
 
 -- of the pieces from number k on
-record IsOfPieces (k : ℕ) (pieces : List Piece) (n count : ℕ) (p : Place) : Type 0 where
+record IsOfPieces (k : ℕ) (pieces : List Piece) (n count : ℕ) (p : ReadingPlace) : Type 0 where
   number : ℕ
   number_is : p.piece ≡ k + number
   piece : Piece
@@ -89,7 +89,7 @@ module _ (t : Timed) (legal : IsLegal t) where
   abbrev own : FlatSystem
   own = view_system t.flat
 
-  small_helper : (place piece site : ℕ) (h : Handing) → helper_at t.helpers place piece site ≡ Some h → AtMost 4095 h.direction × (h.number < length t.helpers)
+  small_helper : (place piece site : ℕ) (h : Pipeline) → helper_at t.helpers place piece site ≡ Some h → AtMost 4095 h.direction × (h.number < length t.helpers)
   small_helper place piece site h found =
       let f = found_helper t.helpers 0 place piece site h found in
       let m = at_index (IsMoving own t.times) t.helpers legal.helpers f.at f.helper f.is_helper in
@@ -110,18 +110,18 @@ module _ (t : Timed) (legal : IsLegal t) where
     fine : IsFineTap n count tap
     known : IsKnown tap.way
 
-  fine_by : (pieces : List Piece) (n count : ℕ) (p : Place) → IsOfPieces 0 pieces n count p → (b : Bool) (o : Option Handing) → ((h : Handing) → o ≡ Some h → AtMost 4095 h.direction × (h.number < length t.helpers)) → AllByRecursion (IsFineOf pieces n count) (taps_by b o p)
+  fine_by : (pieces : List Piece) (n count : ℕ) (p : ReadingPlace) → IsOfPieces 0 pieces n count p → (b : Bool) (o : Option Pipeline) → ((h : Pipeline) → o ≡ Some h → AtMost 4095 h.direction × (h.number < length t.helpers)) → AllByRecursion (IsFineOf pieces n count) (taps_by b o p)
   fine_by pieces n count p is b o small =
       let at : slice_get pieces p.piece ≡ Some is.piece = ap (slice_get pieces) (is.number_is ∙ omega arith) ∙ is.is_piece in
       go b o small at
     where
-      go : (b : Bool) (o : Option Handing) → ((h : Handing) → o ≡ Some h → AtMost 4095 h.direction × (h.number < length t.helpers)) → slice_get pieces p.piece ≡ Some is.piece → AllByRecursion (IsFineOf pieces n count) (taps_by b o p)
+      go : (b : Bool) (o : Option Pipeline) → ((h : Pipeline) → o ≡ Some h → AtMost 4095 h.direction × (h.number < length t.helpers)) → slice_get pieces p.piece ≡ Some is.piece → AllByRecursion (IsFineOf pieces n count) (taps_by b o p)
       go true None f at = (record { piece = is.piece; is_piece = at; fine = record { tree = is.fine; way = tt }; known = tt }, tt)
       go true (Some h) f at = (record { piece = is.piece; is_piece = at; fine = record { tree = is.fine; way = (f h refl).0 }; known = tt }, (record { piece = is.piece; is_piece = at; fine = record { tree = is.fine; way = (f h refl).0 }; known = (f h refl).1 }, tt))
       go false None f at = tt
       go false (Some h) f at = (record { piece = is.piece; is_piece = at; fine = record { tree = is.fine; way = (f h refl).0 }; known = (f h refl).1 }, tt)
 
-  fine_at : (place : ℕ) (pieces : List Piece) (n count : ℕ) (p : Place) → IsOfPieces 0 pieces n count p → (u : Tree) → AllByRecursion (IsFineOf pieces n count) (taps_at own t.helpers place u p)
+  fine_at : (place : ℕ) (pieces : List Piece) (n count : ℕ) (p : ReadingPlace) → IsOfPieces 0 pieces n count p → (u : Tree) → AllByRecursion (IsFineOf pieces n count) (taps_at own t.helpers place u p)
   fine_at place pieces n count p is (reference q m) = fine_by pieces n count p is (computed_at (slice_get own.variables q)) (helper_at t.helpers place p.piece p.site) (small_helper place p.piece p.site)
   fine_at place pieces n count p is (pick q choices w) = fine_by pieces n count p is (computed_at (slice_get own.variables q)) None (λ h e. absurd cc)
   fine_at place pieces n count p is _ = tt
@@ -139,7 +139,7 @@ module _ (t : Timed) (legal : IsLegal t) where
       let count = length vs in
       let n = v.domain.dim in
       let P = IsFineOf v.pieces n count in
-      let all = all_flat (IsOfPieces 0 v.pieces n count) P (λ (p : Place). taps_at own t.helpers place p.tree p) (λ p is. fine_at place v.pieces n count p is p.tree) (places_from 0 v.pieces)
+      let all = all_flat (IsOfPieces 0 v.pieces n count) P (λ (p : ReadingPlace). taps_at own t.helpers place p.tree p) (λ p is. fine_at place v.pieces n count p is p.tree) (places_from 0 v.pieces)
       (places_are vs v 0 v.pieces (recursion_from_All (IsChainedPiece vs v) v.pieces chained.pieces)) in
       let others : Tap → Bool = λ u. not (is_own place u.place.tree) in
       let mine : Tap → Bool = λ u. is_own place u.place.tree in

@@ -2,7 +2,7 @@
 use Rattle.std.proofs.Common.{◌≡◌, ℕ, suc, ◌+◌, List, [], ◌∷◌, refl, sym, ap, arith, ◌∙◌, Bool, true, false, ◌&&◌, if◌then◌else◌, Some}
 use Rattle.std.specs.Prelude.{nat_eq, slice_get}
 use Rattle.av_flat.specs.declared.timed.Helper.{Helper}
-use Rattle.av_space.specs.Taps.{Handing, helper_from}
+use Rattle.av_space.specs.Taps.{Pipeline, helper_from}
 use Rattle.av_base.proofs.Truths.{both}
 use Rattle.av_base.proofs.Lists.{some_is}
 
@@ -10,7 +10,7 @@ pub equal : (m n : ℕ) → nat_eq m n ≡ true → m ≡ n
 equal m n h = grind arith
 
 -- the helper that is found
-pub record IsFound (hs : List Helper) (j place piece site : ℕ) (h : Handing) : Type 0 where
+pub record IsFound (hs : List Helper) (j place piece site : ℕ) (h : Pipeline) : Type 0 where
   pub at : ℕ
   pub number_is : h.number ≡ j + at
   pub helper : Helper
@@ -20,7 +20,7 @@ pub record IsFound (hs : List Helper) (j place piece site : ℕ) (h : Handing) :
   pub site_is : helper.site ≡ site
   pub direction_is : helper.direction ≡ h.direction
 
-pub found_helper : (hs : List Helper) (j place piece site : ℕ) (h : Handing) → helper_from j hs place piece site ≡ Some h → IsFound hs j place piece site h
+pub found_helper : (hs : List Helper) (j place piece site : ℕ) (h : Pipeline) → helper_from j hs place piece site ≡ Some h → IsFound hs j place piece site h
 found_helper [] j place piece site h e = absurd cc
 found_helper (x ∷ hs) j place piece site h e = by_test (λ f. found_helper hs (suc j) place piece site h f) (nat_eq x.var place && nat_eq x.piece piece && nat_eq x.site site) refl e
   where
@@ -31,13 +31,13 @@ found_helper (x ∷ hs) j place piece site h e = by_test (λ f. found_helper hs 
         let m = both (nat_eq x.var place) (nat_eq x.piece piece) l.0 in
         record {
           at = 0;
-          number_is = sym (ap (λ (y : Handing). y.number) is) ∙ omega arith;
+          number_is = sym (ap (λ (y : Pipeline). y.number) is) ∙ omega arith;
           helper = x;
           is_helper = refl;
           var_is = equal x.var place m.0;
           piece_is = equal x.piece piece m.1;
           site_is = equal x.site site l.1;
-          direction_is = ap (λ (y : Handing). y.direction) is;
+          direction_is = ap (λ (y : Pipeline). y.direction) is;
         }
     by_test later false t f =
         let r = later f in

@@ -11,7 +11,7 @@ use Rattle.av_flat.specs.declared.timed.Helper.{Helper}
 use Rattle.av_flat.specs.Trees.{Variable, FlatSystem}
 use Rattle.av_space.specs.declared.cells.Cell.{Cell}
 use Rattle.av_space.specs.declared.cells.Link.{Link}
-use Rattle.av_space.specs.declared.lengths.Line.{Line}
+use Rattle.av_space.specs.declared.lengths.DelayLine.{DelayLine}
 use Rattle.av_space.specs.Coordinates.{Placing}
 use Rattle.av_space.specs.Taps.{taps_of, taps_on, node_of, helper_of, helper_in, helper_read, IsTapped}
 use Rattle.av_space.specs.Links.{is_same, reads_line, line_length, cell_length, delay_count}
@@ -59,16 +59,16 @@ more_at f g a e start (suc n) low high more same =
 -- ---- one more link
 
 module _ (s : FlatSystem) (hs : List Helper) (cells : List Cell) (links : List Link) (l : Link) where
-  abbrev own : Line
+  abbrev own : DelayLine
   own = line_of s hs cells l
 
-  abbrev Length : Line → ℕ
+  abbrev Length : DelayLine → ℕ
   Length q = line_length s hs cells links q.cell q.helper
 
-  abbrev Longer : Line → ℕ
+  abbrev Longer : DelayLine → ℕ
   Longer q = line_length s hs cells (links ++ l ∷ []) q.cell q.helper
 
-  pub length_more : (q : Line) → Longer q ≡ (if is_line own q then max (Length q) l.delay else Length q)
+  pub length_more : (q : DelayLine) → Longer q ≡ (if is_line own q then max (Length q) l.delay else Length q)
   length_more q =
       ap (λ (xs : List Link). fold max 0 (map (λ x. x.delay) xs)) (filter-append test links (l ∷ [])) ∙ by (test l) refl
     where
@@ -79,17 +79,17 @@ module _ (s : FlatSystem) (hs : List Helper) (cells : List Cell) (links : List L
       by true e = ap (fold max 0) (map-append (λ (x : Link). x.delay) (filter test links) (l ∷ [])) ∙ fold_push max 0 (map (λ (x : Link). x.delay) (filter test links)) l.delay
       by false e = ap (λ (xs : List Link). fold max 0 (map (λ x. x.delay) xs)) (append-nil (filter test links))
 
-  pub lengths_more : (m n : BTreeMap Line ℕ) → AreLengths s hs cells links m → ((q : Line) → length_in n q ≡ (if is_line own q then max (length_in m q) l.delay else length_in m q)) → AreLengths s hs cells (links ++ l ∷ []) n
+  pub lengths_more : (m n : BTreeMap DelayLine ℕ) → AreLengths s hs cells links m → ((q : DelayLine) → length_in n q ≡ (if is_line own q then max (length_in m q) l.delay else length_in m q)) → AreLengths s hs cells (links ++ l ∷ []) n
   lengths_more m n h raised q = raised q ∙ ap (λ k. if is_line own q then max k l.delay else k) (h q) ∙ sym (length_more q)
 
   -- what the line grows by
   abbrev growth : ℕ
   growth = l.delay - Length own
 
-  other_line : (q : Line) → is_line own q ≡ false → Longer q ≡ Length q
+  other_line : (q : DelayLine) → is_line own q ≡ false → Longer q ≡ Length q
   other_line q e = length_more q ∙ ap (λ b. if b then max (Length q) l.delay else Length q) e
 
-  own_line : (q : Line) → is_line own q ≡ true → q ≡ own → Longer q ≡ Length q + growth
+  own_line : (q : DelayLine) → is_line own q ≡ true → q ≡ own → Longer q ≡ Length q + growth
   own_line q e same = length_more q ∙ ap (λ b. if b then max (Length q) l.delay else Length q) e ∙ more (Length q) (Length own) l.delay (ap Length same)
     where
       more : (a b d : ℕ) → a ≡ b → max a d ≡ a + (d - b)

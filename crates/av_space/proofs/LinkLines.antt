@@ -9,7 +9,7 @@ use Rattle.av_flat.specs.Trees.{FlatSystem, view_system}
 use Rattle.av_flat.specs.Legal.{IsLegal}
 use Rattle.av_space.specs.declared.cells.Cell.{Cell}
 use Rattle.av_space.specs.declared.cells.Link.{Link}
-use Rattle.av_space.specs.declared.lengths.Line.{Line}
+use Rattle.av_space.specs.declared.lengths.DelayLine.{DelayLine}
 use Rattle.av_space.specs.Coordinates.{Placing}
 use Rattle.av_space.specs.Taps.{node_place, Way, each, entries, handed, helper_of, helper_read, IsTapped}
 use Rattle.av_space.specs.Links.{IsStretch, AreLinks, line_length, delay_count}
@@ -42,20 +42,20 @@ link_counted t legal placings cells links l h =
 
 -- the next link
 pub one_line_more : (s : FlatSystem) (hs : List Helper) (cells : List Cell) (links : List Link) (k : ℕ) (d : Link) → k < length links
-    → (m n : BTreeMap Line ℕ) (line : Line) → line ≡ line_of s hs cells (get_or links k d) → (delay : ℕ) → delay ≡ (get_or links k d).delay → AreLengths s hs cells (take k links) m
-    → ((q : Line) → length_in n q ≡ (if is_line line q then max (length_in m q) delay else length_in m q)) → AreLengths s hs cells (take (k + 1) links) n
+    → (m n : BTreeMap DelayLine ℕ) (line : DelayLine) → line ≡ line_of s hs cells (get_or links k d) → (delay : ℕ) → delay ≡ (get_or links k d).delay → AreLengths s hs cells (take k links) m
+    → ((q : DelayLine) → length_in n q ≡ (if is_line line q then max (length_in m q) delay else length_in m q)) → AreLengths s hs cells (take (k + 1) links) n
 one_line_more s hs cells links k d low m n line here delay when h raised =
     let l = get_or links k d in
     let own = line_of s hs cells l in
     let one : take (k + 1) links ≡ take k links ++ l ∷ [] = take_more links k d low in
-    let all : (q : Line) → length_in n q ≡ (if is_line own q then max (length_in m q) l.delay else length_in m q) = λ q. raised q ∙ ap (λ (x : Line). if is_line x q then max (length_in m q) delay else length_in m q) here ∙ ap (λ e. if is_line own q then max (length_in m q) e else length_in m q) when in
+    let all : (q : DelayLine) → length_in n q ≡ (if is_line own q then max (length_in m q) l.delay else length_in m q) = λ q. raised q ∙ ap (λ (x : DelayLine). if is_line x q then max (length_in m q) delay else length_in m q) here ∙ ap (λ e. if is_line own q then max (length_in m q) e else length_in m q) when in
     subst (λ (ls : List Link). AreLengths s hs cells ls n) (sym one) (lengths_more s hs cells (take k links) l m n h all)
 
 -- the same, with the registers
 pub one_link_more : (t : Timed) → IsLegal t → (placings : List Placing) (cells : List Cell) (links : List Link) → AreLinks (view_system t.flat) t.helpers placings cells links → (k : ℕ) (d : Link) → k < length links
-    → (m n : BTreeMap Line ℕ) (line : Line) → line ≡ line_of (view_system t.flat) t.helpers cells (get_or links k d) → (delay : ℕ) → delay ≡ (get_or links k d).delay → AreLengths (view_system t.flat) t.helpers cells (take k links) m
+    → (m n : BTreeMap DelayLine ℕ) (line : DelayLine) → line ≡ line_of (view_system t.flat) t.helpers cells (get_or links k d) → (delay : ℕ) → delay ≡ (get_or links k d).delay → AreLengths (view_system t.flat) t.helpers cells (take k links) m
     → (count by : ℕ) → count ≡ delay_count (view_system t.flat) t.helpers cells (take k links) → by ≡ delay - length_in m line
-    → ((q : Line) → length_in n q ≡ (if is_line line q then max (length_in m q) delay else length_in m q))
+    → ((q : DelayLine) → length_in n q ≡ (if is_line line q then max (length_in m q) delay else length_in m q))
     → AreLengths (view_system t.flat) t.helpers cells (take (k + 1) links) n × (count + by ≡ delay_count (view_system t.flat) t.helpers cells (take (k + 1) links))
 one_link_more t legal placings cells links are k d low m n line here delay when h count by counted grown raised =
     let s = view_system t.flat in
@@ -63,7 +63,7 @@ one_link_more t legal placings cells links are k d low m n line here delay when 
     let l = get_or links k d in
     let own = line_of s hs cells l in
     let one : take (k + 1) links ≡ take k links ++ l ∷ [] = take_more links k d low in
-    let by_is : by ≡ l.delay - line_length s hs cells (take k links) own.cell own.helper = grown ∙ ap₂ (λ (e : ℕ) (x : Line). e - length_in m x) when here ∙ ap (λ e. l.delay - e) (h own) in (
+    let by_is : by ≡ l.delay - line_length s hs cells (take k links) own.cell own.helper = grown ∙ ap₂ (λ (e : ℕ) (x : DelayLine). e - length_in m x) when here ∙ ap (λ e. l.delay - e) (h own) in (
       one_line_more s hs cells links k d low m n line here delay when h raised,
       ap₂ (λ a b. a + b) counted by_is ∙ sym (link_counted t legal placings cells (take k links) l (are.each k d low)) ∙ ap (delay_count s hs cells) (sym one),
     )

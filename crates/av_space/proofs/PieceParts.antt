@@ -26,7 +26,7 @@ use Rattle.av_space.specs.declared.input_site.InputSite.{InputSite}
 use Rattle.av_space.specs.declared.ports.NodePiece.{NodePiece}
 use Rattle.av_space.specs.declared.ports.Ports.{Ports as Found}
 use Rattle.av_space.specs.Ports.{IsPort}
-use Rattle.av_space.specs.Taps.{node_of, node_place, helper_at, Handing}
+use Rattle.av_space.specs.Taps.{node_of, node_place, helper_at, Pipeline}
 use Rattle.av_space.specs.inner.Feeding.{direction_of, is_entered, with_port, StandAt}
 use Rattle.av_space.specs.inner.NodePieces.{IsNodePiece, IsPart, IsInputSite, ArePortsAt}
 use Rattle.av_space.proofs.ByPlace.{read_at}
@@ -195,7 +195,7 @@ not_input v t u = go (is_input v.kind) t u
 
 -- the direction of a reference's helper
 pub fine_direction : (at : NodePiece) (is : IsNodePiece at) (j place : ℕ) (m : Map) → slice_get (references (view_piece at.piece.now).tree) j ≡ Some (record { place = place; map = m })
-    → (o : Option Handing) → helper_at at.timed.now.helpers (node_place (view_system at.timed.now.flat) at.node) at.number j ≡ o
+    → (o : Option Pipeline) → helper_at at.timed.now.helpers (node_place (view_system at.timed.now.flat) at.node) at.number j ≡ o
     → IfSome (direction_of o) (λ w. length w ≡ m.from) × IfSome (direction_of o) (AtMost 4095)
 fine_direction at is j place m e None f = (tt, tt)
 fine_direction at is j place m e (Some h) f =

@@ -17,7 +17,7 @@ use Rattle.av_pipe.proofs.Piped.{later}
 use Rattle.av_space.specs.declared.cells.Cell.{Cell}
 use Rattle.av_space.specs.Coordinates.{Placing, ArePlacings}
 use Rattle.av_space.specs.Occupancy.{AreCells}
-use Rattle.av_space.specs.Taps.{Handing, helper_at}
+use Rattle.av_space.specs.Taps.{Pipeline, helper_at}
 use Rattle.av_space.proofs.Elements.{at_index}
 use Rattle.av_space.proofs.Helpers.{found_helper}
 use Rattle.av_space.proofs.Timely.{Scheduled}
@@ -36,7 +36,7 @@ module _ (t : Timed) (placings : List Placing) (cells : List Cell) (legal : IsLe
   times_of : map (λ (p : Placing). p.time) placings ≡ t.times
   times_of = are_placings.times_are
 
-  helped_later : (place piece site : ℕ) (h : Handing) (v : Variable) (q : Piece) (time : Time) → slice_get own.variables place ≡ Some v → slice_get v.pieces piece ≡ Some q
+  helped_later : (place piece site : ℕ) (h : Pipeline) (v : Variable) (q : Piece) (time : Time) → slice_get own.variables place ≡ Some v → slice_get v.pieces piece ≡ Some q
       → helper_at t.helpers place piece site ≡ Some h → slice_get (map (λ (p : Placing). p.time) placings) (number_at own place) ≡ Some time → (z : Point) → has q.domain z ≡ true
       → (cycle time (before z h.direction) +ℤ pos 1) ≤ℤ cycle time z
   helped_later place piece site h v q time is_variable is_piece found is_time z here =

@@ -11,7 +11,7 @@ use Rattle.av_space.specs.declared.cells.Cell.{Cell}
 use Rattle.av_space.specs.declared.cells.Link.{Link}
 use Rattle.av_space.specs.declared.layout.Slot.{Slot}
 use Rattle.av_space.specs.declared.layout.Layout.{Layout}
-use Rattle.av_space.specs.declared.stretch.Reading.{Reading}
+use Rattle.av_space.specs.declared.stretch.TapReading.{TapReading}
 use Rattle.av_space.specs.Coordinates.{Placing}
 use Rattle.av_space.specs.Occupancy.{AreCells}
 use Rattle.av_space.specs.Links.{AreLinks}
@@ -67,7 +67,7 @@ module _ (t : Timed) (l : Layout) (legal : IsLegal t) (layout : IsLayout t l) (p
       (subst (λ (u : Tap). IsReadingAt s l.placements l.cells r.node u piece r.point c q d) one (subst (λ (q' : Piece). IsReadingAt s l.placements l.cells r.node r.tap q' r.point c q d) same at)) in
       record { point = r.point; is_slot = is.are_slots.all c r.node r.point r.computes; is = here }
 
-  pub site_links : (rs : List Reading) → AreReadings Of rs → (old new : List Link) → HasLinks (Told rs) (IsAt p j) old new → HasLinks Tapped (IsAt p j) old new
+  pub site_links : (rs : List TapReading) → AreReadings Of rs → (old new : List Link) → HasLinks (Told rs) (IsAt p j) old new → HasLinks Tapped (IsAt p j) old new
   site_links rs h old new links = record {
     added = links.added;
     new_is = links.new_is;

@@ -8,18 +8,18 @@ use Rattle.av_tree.specs.Points.{Point}
 use Rattle.av_flat.specs.Trees.{Piece, FlatSystem}
 use Rattle.av_space.specs.declared.cells.Cell.{Cell}
 use Rattle.av_space.specs.declared.layout.Slot.{Slot}
-use Rattle.av_space.specs.declared.stretch.Reading.{Reading}
+use Rattle.av_space.specs.declared.stretch.TapReading.{TapReading}
 use Rattle.av_space.specs.Coordinates.{Placing}
 use Rattle.av_space.specs.Taps.{Tap}
 use Rattle.av_space.specs.inner.Readings.{IsReadingAt, IsReadingOf, AreReadings}
 use Rattle.av_space.proofs.Stretching.{earlier_ones}
 use Rattle.av_base.proofs.Lists.{some_is}
 
-abbrev pub listed : Option Reading → List Reading
+abbrev pub listed : Option TapReading → List TapReading
 listed None = []
 listed (Some r) = r ∷ []
 
-abbrev told : ℕ → ℕ → ℕ → Reading
+abbrev told : ℕ → ℕ → ℕ → TapReading
 told c q d = record { cycle = c; producer = q; delay = d }
 
 module _ (s : FlatSystem) (placings : List Placing) (cells : List Cell) (n : ℕ) (t : Tap) (piece : Piece) where
@@ -40,8 +40,8 @@ module _ (s : FlatSystem) (placings : List Placing) (cells : List Cell) (n : ℕ
         inr (same, subst (λ (z : Point). At z x.cycle q d) (sym (ap (λ (y : Slot). y.point) e)) (subst (λ (k : ℕ). At r.point k q d) (sym same) r.is))
   ]
 
-  pub one_slot_more : (slots : List Slot) (x : Slot) (rs : List Reading) → All (λ y. y.cycle < x.cycle) slots → AreReadings (Of slots) rs → (o : Option Reading) → IfSome o (λ r. r.cycle ≡ x.cycle)
-      → ((q d : ℕ) → At x.point x.cycle q d ↔ (◌≡◌ {A = Option Reading} o (Some (record { cycle = x.cycle; producer = q; delay = d })))) → AreReadings (Of (slots ++ x ∷ [])) (rs ++ listed o)
+  pub one_slot_more : (slots : List Slot) (x : Slot) (rs : List TapReading) → All (λ y. y.cycle < x.cycle) slots → AreReadings (Of slots) rs → (o : Option TapReading) → IfSome o (λ r. r.cycle ≡ x.cycle)
+      → ((q d : ℕ) → At x.point x.cycle q d ↔ (◌≡◌ {A = Option TapReading} o (Some (record { cycle = x.cycle; producer = q; delay = d })))) → AreReadings (Of (slots ++ x ∷ [])) (rs ++ listed o)
   one_slot_more slots x rs later h None when only = subst (AreReadings (Of (slots ++ x ∷ []))) (sym (append-nil rs)) (record {
     each = All-weaker (λ r. Of slots r.cycle r.producer r.delay) (λ r. Of (slots ++ x ∷ []) r.cycle r.producer r.delay) (λ r i. among slots (x ∷ []) r.cycle r.producer r.delay i) rs h.each;
     all = λ c q d r. elim (cases_of slots x c q d r) [
@@ -58,7 +58,7 @@ module _ (s : FlatSystem) (placings : List Placing) (cells : List Cell) (n : ℕ
       | inl old ↦ Contains-append_left rs (r ∷ []) (told c q d) (h.all c q d old)
       | inr new ↦
           let e : r ≡ told x.cycle q d = some_is r (told x.cycle q d) ((only q d).0 new.1) in
-          subst (λ (k : ℕ). Contains (rs ++ r ∷ []) (told k q d)) new.0 (subst (λ (y : Reading). Contains (rs ++ r ∷ []) y) e (Contains-push rs r))
+          subst (λ (k : ℕ). Contains (rs ++ r ∷ []) (told k q d)) new.0 (subst (λ (y : TapReading). Contains (rs ++ r ∷ []) y) e (Contains-push rs r))
     ];
     order = all_pairs_push (λ a b. a.cycle < b.cycle) rs r h.order (λ k d low. let i = h.each k d low in
         let l = All-contains (λ y. y.cycle < x.cycle) slots (record { cycle = (get_or rs k d).cycle; point = i.point }) later i.is_slot in omega (arith, l, when));
@@ -67,8 +67,8 @@ module _ (s : FlatSystem) (placings : List Placing) (cells : List Cell) (n : ℕ
       here : At x.point x.cycle r.producer r.delay
       here = (only r.producer r.delay).1 (ap (λ k. Some (told k r.producer r.delay)) when)
 
-  pub next_slot : (slots : List Slot) (k : ℕ) (x : Slot) → k < length slots → x ≡ get_or slots k x → AllPairs (λ a b. a.cycle < b.cycle) slots → (rs : List Reading) → AreReadings (Of (take k slots)) rs → (o : Option Reading)
-      → IfSome o (λ r. r.cycle ≡ x.cycle) → ((q d : ℕ) → At x.point x.cycle q d ↔ (◌≡◌ {A = Option Reading} o (Some (record { cycle = x.cycle; producer = q; delay = d }))))
+  pub next_slot : (slots : List Slot) (k : ℕ) (x : Slot) → k < length slots → x ≡ get_or slots k x → AllPairs (λ a b. a.cycle < b.cycle) slots → (rs : List TapReading) → AreReadings (Of (take k slots)) rs → (o : Option TapReading)
+      → IfSome o (λ r. r.cycle ≡ x.cycle) → ((q d : ℕ) → At x.point x.cycle q d ↔ (◌≡◌ {A = Option TapReading} o (Some (record { cycle = x.cycle; producer = q; delay = d }))))
       → AreReadings (Of (take (k + 1) slots)) (rs ++ listed o)
   next_slot slots k x lt is order rs h o when only =
       let one : take (k + 1) slots ≡ take k slots ++ x ∷ [] = take_more slots k x lt ∙ ap (λ (y : Slot). take k slots ++ y ∷ []) (sym is) in

@@ -13,7 +13,7 @@ use Rattle.av_flat.specs.Chained.{IsOfPartial}
 use Rattle.av_flat.specs.Signatures.{Signature, signature, signatures, is_kind, is_computed}
 use Rattle.av_flat.specs.WellFormed.{EachPart}
 use Rattle.av_depend.proofs.Adds.{among_filter}
-use Rattle.av_space.specs.Taps.{Place, places_in, places_from, Tap, taps_at, is_own, all_taps, taps}
+use Rattle.av_space.specs.Taps.{ReadingPlace, places_in, places_from, Tap, taps_at, is_own, all_taps, taps}
 use Rattle.av_depend.specs.ComputedPlaces.{computed_at}
 use Rattle.av_space.specs.inner.Feeding.{StandAt}
 use Rattle.av_space.specs.inner.SpotTaps.{IsComputedRead}
@@ -26,12 +26,12 @@ use Rattle.av_base.proofs.Among.{among_flat_map}
 -- ---- what a place is
 
 -- a reference stands among those of the whole tree with its number, and a pick is one of a partial variable
-abbrev pub IsPlaceBy : List Signature → List Reference → Place → Tree → Type 0
+abbrev pub IsPlaceBy : List Signature → List Reference → ReadingPlace → Tree → Type 0
 IsPlaceBy vs whole p (reference place m) = slice_get whole p.site ≡ Some (record { place = place; map = m })
 IsPlaceBy vs whole p (pick place choices n) = (v : Signature) × (slice_get vs place ≡ Some v) × IsTrue (is_kind v.kind kind.Partial)
 IsPlaceBy vs whole p _ = ⊥
 
-abbrev IsKnown : List Signature → List Reference → Place → Type 0
+abbrev IsKnown : List Signature → List Reference → ReadingPlace → Type 0
 IsKnown vs whole p = IsPlaceBy vs whole p p.tree
 
 places_known : (vs : List Signature) (width : ℕ) (whole : List Reference) (k n : ℕ) (t : Tree) → StandAt n (references t) whole → EachPart (IsOfPartial vs width) t → AllByRecursion (IsKnown vs whole) (places_in k n t)
@@ -73,13 +73,13 @@ places_known vs width whole k n (dependence m t) h partial = tt
 places_known vs width whole k n (reduction o m t set) h partial = tt
 
 -- of a place of the whole tree
-pub place_known : (vs : List Signature) (width k : ℕ) (t : Tree) → EachPart (IsOfPartial vs width) t → (p : Place) → Contains (places_in k 0 t) p → IsPlaceBy vs (references t) p p.tree
+pub place_known : (vs : List Signature) (width k : ℕ) (t : Tree) → EachPart (IsOfPartial vs width) t → (p : ReadingPlace) → Contains (places_in k 0 t) p → IsPlaceBy vs (references t) p p.tree
 place_known vs width k t partial p among =
     let i = place_in (places_in k 0 t) p among in
     let whole : StandAt 0 (references t) (references t) = λ j x e. (let a : j ≡ 0 + j = omega arith in subst (λ (m : ℕ). slice_get (references t) m ≡ Some x) a e) in
     each_at (IsKnown vs (references t)) (places_in k 0 t) (places_known vs width (references t) k 0 t whole partial) i.0 p i.1
 
-pub place_read : (k : ℕ) (t : Tree) (p : Place) → Contains (places_in k 0 t) p → IsPlaceIn k t p
+pub place_read : (k : ℕ) (t : Tree) (p : ReadingPlace) → Contains (places_in k 0 t) p → IsPlaceIn k t p
 place_read k t p among = let i = place_in (places_in k 0 t) p among in each_at (IsPlaceIn k t) (places_in k 0 t) (places_are k 0 t) i.0 p i.1
 
 -- what a pick reads is computed
@@ -94,7 +94,7 @@ signature_computed [] place v e h = absurd cc
 signature_computed (w ∷ vs) zero v e h = ap (λ (x : Signature). is_computed x.kind) (some_is (signature w) v e) ∙ h
 signature_computed (w ∷ vs) (suc place) v e h = signature_computed vs place v e h
 
-pub pick_computed : (s : FlatSystem) (whole : List Reference) (p : Place) (t : Tree) (place n : ℕ) (choices : List _) → t ≡ pick place choices n → IsPlaceBy (signatures s) whole p t → IsComputedRead s t
+pub pick_computed : (s : FlatSystem) (whole : List Reference) (p : ReadingPlace) (t : Tree) (place n : ℕ) (choices : List _) → t ≡ pick place choices n → IsPlaceBy (signatures s) whole p t → IsComputedRead s t
 pick_computed s whole p (pick place choices n) q m cs e h = signature_computed s.variables place h.0 h.1 (partial_computed h.0.kind h.2)
 pick_computed s whole p (reference place m) q n cs e h = absurd cc
 pick_computed s whole p (constant w) q n cs e h = absurd h
@@ -107,7 +107,7 @@ pick_computed s whole p (reduction o m t set) q n cs e h = absurd h
 
 -- ---- its taps
 
-place_among : (k j : ℕ) (pieces : List Piece) (piece : Piece) (p : Place) → slice_get pieces k ≡ Some piece → Contains (places_in (j + k) 0 piece.tree) p → Contains (places_from j pieces) p
+place_among : (k j : ℕ) (pieces : List Piece) (piece : Piece) (p : ReadingPlace) → slice_get pieces k ≡ Some piece → Contains (places_in (j + k) 0 piece.tree) p → Contains (places_from j pieces) p
 place_among k j [] piece p is c = absurd cc
 place_among zero j (q ∷ pieces) piece p is c =
     let e : j + 0 ≡ j = omega arith in
@@ -118,7 +118,7 @@ place_among (suc k) j (q ∷ pieces) piece p is c =
     Contains-append_right (places_in j 0 q.tree) (places_from (suc j) pieces) p (place_among k (suc j) pieces piece p is (subst (λ (i : ℕ). Contains (places_in i 0 piece.tree) p) e c))
 
 -- a tap of a place of a piece is a tap site of the variable
-pub tap_site : (s : FlatSystem) (hs : List Helper) (own : ℕ) (v : Variable) (k : ℕ) (piece : Piece) (p : Place) (tap : Tap) → slice_get v.pieces k ≡ Some piece → Contains (places_in k 0 piece.tree) p → Contains (taps_at s hs own p.tree p) tap
+pub tap_site : (s : FlatSystem) (hs : List Helper) (own : ℕ) (v : Variable) (k : ℕ) (piece : Piece) (p : ReadingPlace) (tap : Tap) → slice_get v.pieces k ≡ Some piece → Contains (places_in k 0 piece.tree) p → Contains (taps_at s hs own p.tree p) tap
     → (number : ℕ) × (slice_get (taps s hs own v) number ≡ Some tap)
 tap_site s hs own v k piece p tap is among at = place_in (taps s hs own v) tap (by (is_own own tap.place.tree) refl)
   where
@@ -126,7 +126,7 @@ tap_site s hs own v k piece p tap is among at = place_in (taps s hs own v) tap (
     e = omega arith
 
     all : Contains (all_taps s hs own v) tap
-    all = among_flat_map (λ (q : Place). taps_at s hs own q.tree q) (places_from 0 v.pieces) p tap (place_among k 0 v.pieces piece p is (subst (λ (i : ℕ). Contains (places_in i 0 piece.tree) p) e among)) at
+    all = among_flat_map (λ (q : ReadingPlace). taps_at s hs own q.tree q) (places_from 0 v.pieces) p tap (place_among k 0 v.pieces piece p is (subst (λ (i : ℕ). Contains (places_in i 0 piece.tree) p) e among)) at
 
     others : Tap → Bool
     others u = not (is_own own u.place.tree)

@@ -13,11 +13,11 @@ use Rattle.av_space.specs.declared.cells.InPort.{InPort}
 use Rattle.av_space.specs.declared.layout.Slot.{Slot}
 use Rattle.av_space.specs.declared.spots.Site.{Site}
 use Rattle.av_space.specs.declared.spots.Spot.{Spot}
-use Rattle.av_space.specs.declared.stretch.Reading.{Reading}
-use Rattle.av_space.specs.Taps.{node_place, Handing, helper_at, IsReadAt, Place, Way, Tap, taps_at, IsReadBy, IsTapRead, IsTapped}
+use Rattle.av_space.specs.declared.stretch.TapReading.{TapReading}
+use Rattle.av_space.specs.Taps.{node_place, Pipeline, helper_at, IsReadAt, ReadingPlace, Way, Tap, taps_at, IsReadBy, IsTapRead, IsTapped}
 use Rattle.av_space.specs.Links.{IsStretch}
 use Rattle.av_space.specs.Sites.{place_of}
-use Rattle.av_space.specs.Spots.{system_of, helpers_of, placings_of, cells_of, IsArray, IsSpot, IsSlotIn, IsSiteOf, handing_by, IsLinkedBy}
+use Rattle.av_space.specs.Spots.{system_of, helpers_of, placings_of, cells_of, IsArray, IsSpot, IsSlotIn, IsSiteOf, pipeline_by, IsLinkedBy}
 use Rattle.av_space.specs.inner.Readings.{IsFineTap, IsSiteOn, IsSite, IsReadingAt, IsReadingOf}
 use Rattle.av_space.specs.inner.SpotTaps.{IsSpotTap, IsReadThere, IsComputedRead, IsPortSite}
 use Rattle.av_space.proofs.Elements.{in_range, at_index}
@@ -80,14 +80,14 @@ module _ (a : Array) (is : IsArray a) (at : Spot) (spot : IsSpot a at) where
     At q d = IsReadingAt s (placings_of a) (cells_of a) at.node tap piece slot.point slot.cycle q d
 
     -- where nothing is found, nothing is read
-    nothing : ((q d : ℕ) → At q d ↔ (◌≡◌ {A = Option Reading} None (Some (record { cycle = slot.cycle; producer = q; delay = d })))) → (k : ℕ) (y : Point) → IsTapRead s at.node tap.place.tree tap.way piece slot.point k y → ⊥
+    nothing : ((q d : ℕ) → At q d ↔ (◌≡◌ {A = Option TapReading} None (Some (record { cycle = slot.cycle; producer = q; delay = d })))) → (k : ℕ) (y : Point) → IsTapRead s at.node tap.place.tree tap.way piece slot.point k y → ⊥
     nothing only k y reads =
         let b = read_before a.timed.now a.layout is.legal is.layout at.cell tapped.number at.node tap piece own_slots.0 site_on slot.cycle slot.point among on.within k y reads in
         let r : At b.0 b.2 = record { within = on.within; producer = k; read = y; reads = reads; earlier = b.1; later = b.3; computed = b.5 } in
         let e = (only b.0 b.2).0 r in absurd cc
 
     -- what is found comes over a link
-    linked : (r : Reading) → r.cycle ≡ slot.cycle → ((q d : ℕ) → At q d ↔ (◌≡◌ {A = Option Reading} (Some r) (Some (record { cycle = slot.cycle; producer = q; delay = d })))) → IsReadThere a at tap slot × IsLinkedBy a at slot.cycle tap r.producer r.delay
+    linked : (r : TapReading) → r.cycle ≡ slot.cycle → ((q d : ℕ) → At q d ↔ (◌≡◌ {A = Option TapReading} (Some r) (Some (record { cycle = slot.cycle; producer = q; delay = d })))) → IsReadThere a at tap slot × IsLinkedBy a at slot.cycle tap r.producer r.delay
     linked r when only =
         let reading = (only r.producer r.delay).1 (ap (λ c. Some (record { cycle = c; producer = r.producer; delay = r.delay })) when) in
         let own : IsReadingOf s (placings_of a) (cells_of a) at.node tap piece own_slots.0 slot.cycle r.producer r.delay = record { point = slot.point; is_slot = among; is = reading } in
@@ -99,7 +99,7 @@ module _ (a : Array) (is : IsArray a) (at : Spot) (spot : IsSpot a at) where
         let same = stretch.between slot.cycle r.producer r.delay l.2.2 l.2.3 there in
         (record { node = reading.producer; point = reading.read; reads = reading.reads }, record { number = tapped.number; is_tap = tapped.is_tap; link = l.0; is_link = l.1; in_link = l.2; producer_is = same.0; delay_is = same.1 })
 
-    pub read_of : (o : Option Reading) → IfSome o (λ r. r.cycle ≡ slot.cycle) → ((q d : ℕ) → At q d ↔ (◌≡◌ {A = Option Reading} o (Some (record { cycle = slot.cycle; producer = q; delay = d }))))
+    pub read_of : (o : Option TapReading) → IfSome o (λ r. r.cycle ≡ slot.cycle) → ((q d : ℕ) → At q d ↔ (◌≡◌ {A = Option TapReading} o (Some (record { cycle = slot.cycle; producer = q; delay = d }))))
         → MatchOption o (IsReadThere a at tap slot → ⊥) (λ r. IsReadThere a at tap slot × IsLinkedBy a at slot.cycle tap r.producer r.delay)
     read_of None when only = λ r. nothing only r.node r.point r.reads
     read_of (Some r) when only = linked r when only
@@ -107,7 +107,7 @@ module _ (a : Array) (is : IsArray a) (at : Spot) (spot : IsSpot a at) where
   -- ---- places
 
   module _ (mine : Site) (placed : IsSiteOf a at mine) where
-    abbrev pub p : Place
+    abbrev pub p : ReadingPlace
     p = place_of mine.place
 
     pub known : IsPlaceBy (signatures s) (references piece.tree) p p.tree
@@ -139,10 +139,10 @@ module _ (a : Array) (is : IsArray a) (at : Spot) (spot : IsSpot a at) where
           at.number piece spot.is_piece slot.point on.within place y ((place_read at.number piece.tree p placed.is_place).part slot.point place y r) (computed_there s p.tree c slot.point place y r)
 
       -- a reference to an input has a port on the cell, where it is read
-      pub port_there : (fed : IsPortSite a at mine) → IsReadAt mine.handing piece slot.point → Contains a.cells.now.inputs (record { cell = at.cell; piece = at.number; site = mine.place.site })
+      pub port_there : (fed : IsPortSite a at mine) → IsReadAt mine.pipeline piece slot.point → Contains a.cells.now.inputs (record { cell = at.cell; piece = at.number; site = mine.place.site })
       port_there fed entered =
-          let here : mine.handing ≡ helper_at (helpers_of a) (node_place s at.node) at.number mine.place.site =
-          placed.handing ∙ ap (λ (t : Tree). handing_by (helpers_of a) at.place p t) fed.tree
+          let here : mine.pipeline ≡ helper_at (helpers_of a) (node_place s at.node) at.number mine.place.site =
+          placed.pipeline ∙ ap (λ (t : Tree). pipeline_by (helpers_of a) at.place p t) fed.tree
           ∙ ap (λ (n : ℕ). helper_at (helpers_of a) n mine.place.piece mine.place.site) spot.place
           ∙ ap (λ (k : ℕ). helper_at (helpers_of a) (node_place s at.node) k mine.place.site) piece_is in
           let own : InPort = record { cell = at.cell; piece = at.number; site = mine.place.site } in
@@ -163,6 +163,6 @@ module _ (a : Array) (is : IsArray a) (at : Spot) (spot : IsSpot a at) where
               is_reference = fed.is_reference;
               is_variable_read = fed.is_read;
               input_kind = fed.input;
-              entered = subst (λ (h : Option Handing). IsReadAt h piece slot.point) here entered;
+              entered = subst (λ (h : Option Pipeline). IsReadAt h piece slot.point) here entered;
             },
           )

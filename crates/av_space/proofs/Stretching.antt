@@ -5,21 +5,21 @@ use Rattle.std.specs.Prelude.{All, AllPairs, Contains}
 use Rattle.std.proofs.lemmas.List.Elements.{All-contains, All-nil, All-push, All-weaker, Contains-append_left, Contains-push, Contains-push_cases}
 use Rattle.std.proofs.lemmas.List.Quantifiers.{all_pairs_push}
 use Rattle.av_space.specs.declared.cells.Link.{Link}
-use Rattle.av_space.specs.declared.stretch.Reading.{Reading}
+use Rattle.av_space.specs.declared.stretch.TapReading.{TapReading}
 use Rattle.av_space.specs.Links.{IsLinkBefore}
 use Rattle.av_space.specs.inner.Stretches.{IsStretchOf, AreApartBy, AreLinksIn, HasLinks, IsAt, Told, AreByCycle, IsOpen, HasOpen}
 
 -- the stretch that begins with a reading
-abbrev pub begun : ℕ → ℕ → Reading → Link
+abbrev pub begun : ℕ → ℕ → TapReading → Link
 begun p j r = record { consumer = p; producer = r.producer; site = j; delay = r.delay; first = r.cycle; last = r.cycle }
 
 -- a reading as it is told
-abbrev told : ℕ → ℕ → ℕ → Reading
+abbrev told : ℕ → ℕ → ℕ → TapReading
 told c q d = record { cycle = c; producer = q; delay = d }
 
 -- the readings so far, and one in a later cycle
-module _ (rs : List Reading) (r : Reading) (later : All (λ x. x.cycle < r.cycle) rs) where
-  more : List Reading
+module _ (rs : List TapReading) (r : TapReading) (later : All (λ x. x.cycle < r.cycle) rs) where
+  more : List TapReading
   more = rs ++ r ∷ []
 
   is_before : (c q d : ℕ) → Contains rs (told c q d) → c < r.cycle
@@ -35,7 +35,7 @@ module _ (rs : List Reading) (r : Reading) (later : All (λ x. x.cycle < r.cycle
     ends = among l.last l.producer l.delay s.ends;
     between = λ c q d low high t. elim (Contains-push_cases rs r (told c q d) t) [
       | inl old ↦ s.between c q d low high old
-      | inr e ↦ absurd (omega (arith, is_before l.last l.producer l.delay s.ends, ap (λ (x : Reading). x.cycle) e))
+      | inr e ↦ absurd (omega (arith, is_before l.last l.producer l.delay s.ends, ap (λ (x : TapReading). x.cycle) e))
     ];
   }
 
@@ -58,12 +58,12 @@ module _ (rs : List Reading) (r : Reading) (later : All (λ x. x.cycle < r.cycle
         ends = rw (sym same.0, sym same.1) (Contains-push rs r);
         between = λ c q d low high t. elim (Contains-push_cases rs r (told c q d) t) [
           | inl old ↦ o.last_is.between c q d low (All-contains (λ x. x.cycle ≤ last.last) rs (told c q d) o.latest old) old
-          | inr e ↦ (sym (ap (λ (x : Reading). x.producer) e) ∙ same.0, sym (ap (λ (x : Reading). x.delay) e) ∙ same.1)
+          | inr e ↦ (sym (ap (λ (x : TapReading). x.producer) e) ∙ same.0, sym (ap (λ (x : TapReading). x.delay) e) ∙ same.1)
         ];
       };
       all = λ c q d t. elim (Contains-push_cases rs r (told c q d) t) [
         | inl old ↦ elim (o.all c q d old) [ inl x ↦ inl x | inr y ↦ inr (y.0, omega (arith, y.1, last_before)) ]
-        | inr e ↦ let f = ap (λ (x : Reading). x.cycle) e in inr (omega (arith, f, o.last_is.ordered, last_before), omega (arith, f))
+        | inr e ↦ let f = ap (λ (x : TapReading). x.cycle) e in inr (omega (arith, f, o.last_is.ordered, last_before), omega (arith, f))
       ];
       maximal = λ i k d lt le. apart_kept (get_or ended i d) (get_or ended k d) (o.maximal i k d lt le);
       last_maximal = λ k d lt n same'. apart_kept (get_or ended k d) last (o.last_maximal k d lt) n same';
@@ -84,12 +84,12 @@ module _ (rs : List Reading) (r : Reading) (later : All (λ x. x.cycle < r.cycle
         ends = Contains-push rs r;
         between = λ c q d low high t. elim (Contains-push_cases rs r (told c q d) t) [
           | inl old ↦ absurd (omega (arith, is_before c q d old))
-          | inr e ↦ (sym (ap (λ (x : Reading). x.producer) e), sym (ap (λ (x : Reading). x.delay) e))
+          | inr e ↦ (sym (ap (λ (x : TapReading). x.producer) e), sym (ap (λ (x : TapReading). x.delay) e))
         ];
       };
       all = λ c q d t. elim (Contains-push_cases rs r (told c q d) t) [
         | inl old ↦ inl (elim (o.all c q d old) [ inl x ↦ (x.0, Contains-append_left ended (last ∷ []) x.0 x.1, x.2, x.3) | inr y ↦ (last, Contains-push ended last, y.0, y.1) ])
-        | inr e ↦ let f = ap (λ (x : Reading). x.cycle) e in inr (omega (arith, f), omega (arith, f))
+        | inr e ↦ let f = ap (λ (x : TapReading). x.cycle) e in inr (omega (arith, f), omega (arith, f))
       ];
       maximal = all_pairs_push (AreApartBy (Told (rs ++ r ∷ []))) ended last (λ i k d lt le. apart_kept (get_or ended i d) (get_or ended k d) (o.maximal i k d lt le)) (λ k d lt. apart_kept (get_or ended k d) last (o.last_maximal k d lt));
       last_maximal = All-push (λ l. AreApartBy (Told (rs ++ r ∷ [])) l (begun p j r)) ended last
@@ -101,7 +101,7 @@ module _ (rs : List Reading) (r : Reading) (later : All (λ x. x.cycle < r.cycle
     }
 
 -- the first reading
-pub started : (p j : ℕ) (r : Reading) → IsOpen p j (r ∷ []) [] (begun p j r)
+pub started : (p j : ℕ) (r : TapReading) → IsOpen p j (r ∷ []) [] (begun p j r)
 started p j r = record {
   within = All-nil (λ l. IsAt p j l.consumer l.site);
   last_within = (refl, refl);
@@ -112,12 +112,12 @@ started p j r = record {
     ends = Contains-push [] r;
     between = λ c q d low high t. elim (Contains-push_cases [] r (told c q d) t) [
       | inl old ↦ absurd (omega (arith, old.1))
-      | inr e ↦ (sym (ap (λ (x : Reading). x.producer) e), sym (ap (λ (x : Reading). x.delay) e))
+      | inr e ↦ (sym (ap (λ (x : TapReading). x.producer) e), sym (ap (λ (x : TapReading). x.delay) e))
     ];
   };
   all = λ c q d t. elim (Contains-push_cases [] r (told c q d) t) [
     | inl old ↦ absurd (omega (arith, old.1))
-    | inr e ↦ let f = ap (λ (x : Reading). x.cycle) e in inr (omega (arith, f), omega (arith, f))
+    | inr e ↦ let f = ap (λ (x : TapReading). x.cycle) e in inr (omega (arith, f), omega (arith, f))
   ];
   maximal = λ i k d lt le. absurd (omega (arith, lt, le));
   last_maximal = All-nil (λ l. AreApartBy (Told (r ∷ [])) l (begun p j r));
@@ -127,7 +127,7 @@ started p j r = record {
 }
 
 -- after the last reading
-pub ended_all : (p j : ℕ) (rs : List Reading) (ended : List Link) (last : Link) → IsOpen p j rs ended last → AreLinksIn (Told rs) (IsAt p j) (ended ++ last ∷ [])
+pub ended_all : (p j : ℕ) (rs : List TapReading) (ended : List Link) (last : Link) → IsOpen p j rs ended last → AreLinksIn (Told rs) (IsAt p j) (ended ++ last ∷ [])
 ended_all p j rs ended last o = record {
   within = All-push (λ l. IsAt p j l.consumer l.site) ended last o.within o.last_within;
   each = All-push (IsStretchOf (Told rs)) ended last o.each o.last_is;
@@ -152,25 +152,25 @@ earlier_ones R xs n d lt order k e low =
     subst (λ (x : _). R x (get_or xs n d)) (sym (get_or-take n xs k e short))
     (subst (λ (y : _). R (get_or xs k e) y) (get_or_default xs n e d lt) (order k n e short lt))
 
-module _ (p j : ℕ) (rs rest : List Reading) (first : Reading) (is : rs ≡ first ∷ rest) (i : ℕ) (d : Reading) (lt : i < length rest) (order : AreByCycle rs) (old new : List Link) (last : Link) (o : HasOpen p j (take (suc i) rs) old new last) where
+module _ (p j : ℕ) (rs rest : List TapReading) (first : TapReading) (is : rs ≡ first ∷ rest) (i : ℕ) (d : TapReading) (lt : i < length rest) (order : AreByCycle rs) (old new : List Link) (last : Link) (o : HasOpen p j (take (suc i) rs) old new last) where
   within : suc i < length rs
-  within = omega (arith, ap (length {A = Reading}) is, lt)
+  within = omega (arith, ap (length {A = TapReading}) is, lt)
 
   next_is : get_or rs (suc i) d ≡ get_or rest i d
-  next_is = ap (λ (l : List Reading). get_or l (suc i) d) is
+  next_is = ap (λ (l : List TapReading). get_or l (suc i) d) is
 
   one_more : take (suc (i + 1)) rs ≡ take (suc i) rs ++ get_or rest i d ∷ []
-  one_more = (let e : suc (i + 1) ≡ suc i + 1 = omega arith in ap (λ (n : ℕ). take n rs) e) ∙ take_more rs (suc i) d within ∙ ap (λ (r : Reading). take (suc i) rs ++ r ∷ []) next_is
+  one_more = (let e : suc (i + 1) ≡ suc i + 1 = omega arith in ap (λ (n : ℕ). take n rs) e) ∙ take_more rs (suc i) d within ∙ ap (λ (r : TapReading). take (suc i) rs ++ r ∷ []) next_is
 
   before_it : All (λ x. x.cycle < (get_or rest i d).cycle) (take (suc i) rs)
-  before_it = subst (λ (r : Reading). All (λ x. x.cycle < r.cycle) (take (suc i) rs)) next_is (earlier_ones (λ a b. a.cycle < b.cycle) rs (suc i) d within order)
+  before_it = subst (λ (r : TapReading). All (λ x. x.cycle < r.cycle) (take (suc i) rs)) next_is (earlier_ones (λ a b. a.cycle < b.cycle) rs (suc i) d within order)
 
   pub went_on : ((get_or rest i d).producer ≡ last.producer) × ((get_or rest i d).delay ≡ last.delay) → HasOpen p j (take (suc (i + 1)) rs) old new (record last { last = (get_or rest i d).cycle })
-  went_on same = subst (λ (l : List Reading). HasOpen p j l old new (record last { last = (get_or rest i d).cycle })) (sym one_more)
+  went_on same = subst (λ (l : List TapReading). HasOpen p j l old new (record last { last = (get_or rest i d).cycle })) (sym one_more)
       (record { ended = o.ended; new_is = o.new_is; are = prolonged (take (suc i) rs) (get_or rest i d) before_it p j o.ended last o.are same })
 
   pub went_anew : (((get_or rest i d).producer ≡ last.producer) × ((get_or rest i d).delay ≡ last.delay) → ⊥) → HasOpen p j (take (suc (i + 1)) rs) old (new ++ last ∷ []) (begun p j (get_or rest i d))
-  went_anew differs = subst (λ (l : List Reading). HasOpen p j l old (new ++ last ∷ []) (begun p j (get_or rest i d))) (sym one_more)
+  went_anew differs = subst (λ (l : List TapReading). HasOpen p j l old (new ++ last ∷ []) (begun p j (get_or rest i d))) (sym one_more)
       (record {
         ended = o.ended ++ last ∷ [];
         new_is = ap (λ (l : List Link). l ++ last ∷ []) o.new_is ∙ append_assoc old o.ended (last ∷ []);
@@ -178,16 +178,16 @@ module _ (p j : ℕ) (rs rest : List Reading) (first : Reading) (is : rs ≡ fir
       })
 
 -- the first reading alone
-pub begins : (p j : ℕ) (rs rest : List Reading) (first : Reading) → rs ≡ first ∷ rest → (old : List Link) → HasOpen p j (take 1 rs) old old (begun p j first)
-begins p j rs rest first is old = record { ended = []; new_is = sym (append-nil old); are = subst (λ (l : List Reading). IsOpen p j (take 1 l) [] (begun p j first)) (sym is) (started p j first) }
+pub begins : (p j : ℕ) (rs rest : List TapReading) (first : TapReading) → rs ≡ first ∷ rest → (old : List Link) → HasOpen p j (take 1 rs) old old (begun p j first)
+begins p j rs rest first is old = record { ended = []; new_is = sym (append-nil old); are = subst (λ (l : List TapReading). IsOpen p j (take 1 l) [] (begun p j first)) (sym is) (started p j first) }
 
 -- all of them
-pub concluded : (p j : ℕ) (rs rest : List Reading) (first : Reading) → rs ≡ first ∷ rest → (i : ℕ) → length rest ≤ i → (old new newest : List Link) (last : Link) → HasOpen p j (take (suc i) rs) old new last
+pub concluded : (p j : ℕ) (rs rest : List TapReading) (first : TapReading) → rs ≡ first ∷ rest → (i : ℕ) → length rest ≤ i → (old new newest : List Link) (last : Link) → HasOpen p j (take (suc i) rs) old new last
     → newest ≡ new ++ last ∷ [] → HasLinks (Told rs) (IsAt p j) old newest
 concluded p j rs rest first is i le old new newest last o e =
-    let whole : take (suc i) rs ≡ rs = take_all (suc i) rs (omega (arith, le, ap (length {A = Reading}) is)) in
+    let whole : take (suc i) rs ≡ rs = take_all (suc i) rs (omega (arith, le, ap (length {A = TapReading}) is)) in
     record {
       added = o.ended ++ last ∷ [];
       new_is = e ∙ ap (λ (l : List Link). l ++ last ∷ []) o.new_is ∙ append_assoc old o.ended (last ∷ []);
-      are = ended_all p j rs o.ended last (subst (λ (l : List Reading). IsOpen p j l o.ended last) whole o.are);
+      are = ended_all p j rs o.ended last (subst (λ (l : List TapReading). IsOpen p j l o.ended last) whole o.are);
     }

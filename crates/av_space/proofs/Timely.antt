@@ -30,7 +30,7 @@ use Rattle.av_flat.specs.Reads.{IsRead, IsPair}
 use Rattle.av_flat.specs.Chained.{ReadsThere}
 use Rattle.av_flat.specs.Helped.{before}
 use Rattle.av_space.specs.inner.SpotTaps.{IsComputedRead}
-use Rattle.av_space.specs.Taps.{Handing, helper_at, Place, places_in, places_from, Way, each, entries, handed, Tap, taps_by, taps_at, is_own, all_taps, taps, IsReadBy, IsTapRead}
+use Rattle.av_space.specs.Taps.{Pipeline, helper_at, ReadingPlace, places_in, places_from, Way, each, entries, handed, Tap, taps_by, taps_at, is_own, all_taps, taps, IsReadBy, IsTapRead}
 use Rattle.av_depend.specs.ComputedPlaces.{computed_at}
 use Rattle.av_space.proofs.Elements.{each_at, in_range}
 use Rattle.av_space.proofs.NodePlaces.{node_at}
@@ -44,11 +44,11 @@ use Rattle.av_base.proofs.Lists.{each_append, each_by_place, each_filtered, each
 abbrev pub IsPart : Tree → Tree → Type 0
 IsPart t tree = (z : Point) (place : ℕ) (y : Point) → IsReadBy t z place y → IsRead tree z place y
 
-pub record IsPlaceIn (k : ℕ) (tree : Tree) (p : Place) : Type 0 where
+pub record IsPlaceIn (k : ℕ) (tree : Tree) (p : ReadingPlace) : Type 0 where
   pub piece_is : p.piece ≡ k
   pub part : IsPart p.tree tree
 
-in_larger : (k : ℕ) (small large : Tree) → ((z : Point) (place : ℕ) (y : Point) → IsRead small z place y → IsRead large z place y) → (ps : List Place) → AllByRecursion (IsPlaceIn k small) ps → AllByRecursion (IsPlaceIn k large) ps
+in_larger : (k : ℕ) (small large : Tree) → ((z : Point) (place : ℕ) (y : Point) → IsRead small z place y → IsRead large z place y) → (ps : List ReadingPlace) → AllByRecursion (IsPlaceIn k small) ps → AllByRecursion (IsPlaceIn k large) ps
 in_larger k small large f ps h = each_weaker (IsPlaceIn k small) (IsPlaceIn k large) (λ p x. record { piece_is = x.piece_is; part = λ z place y r. f z place y (x.part z place y r) }) ps h
 
 pub places_are : (k n : ℕ) (tree : Tree) → AllByRecursion (IsPlaceIn k tree) (places_in k n tree)
@@ -73,7 +73,7 @@ places_are k n (choice l c' r x v) =
     let pv = in_larger k v t (λ z place y h. inr (inr (inr h))) vv (places_are k nv v) in
     four ll rr xx vv pl pr px pv
   where
-    four : (a b c d : List Place) → AllByRecursion (IsPlaceIn k (choice l c' r x v)) a → AllByRecursion (IsPlaceIn k (choice l c' r x v)) b → AllByRecursion (IsPlaceIn k (choice l c' r x v)) c → AllByRecursion (IsPlaceIn k (choice l c' r x v)) d
+    four : (a b c d : List ReadingPlace) → AllByRecursion (IsPlaceIn k (choice l c' r x v)) a → AllByRecursion (IsPlaceIn k (choice l c' r x v)) b → AllByRecursion (IsPlaceIn k (choice l c' r x v)) c → AllByRecursion (IsPlaceIn k (choice l c' r x v)) d
         → AllByRecursion (IsPlaceIn k (choice l c' r x v)) (a ++ b ++ c ++ d)
     four a b c d pa pb pc pd =
         let P = IsPlaceIn k (choice l c' r x v) in
@@ -82,7 +82,7 @@ places_are k n (pick place choices w) = (record { piece_is = refl; part = λ z p
 places_are k n _ = tt
 
 -- of the pieces from number k on
-record IsPlaceOf (k : ℕ) (pieces : List Piece) (p : Place) : Type 0 where
+record IsPlaceOf (k : ℕ) (pieces : List Piece) (p : ReadingPlace) : Type 0 where
   number : ℕ
   number_is : p.piece ≡ k + number
   piece : Piece
@@ -102,7 +102,7 @@ computed_there s (reference q m) c z place y r = subst (λ i. computed_at (slice
 computed_there s (pick q choices m) c z place y r = subst (λ i. computed_at (slice_get s.variables i) ≡ true) (sym r.0) c
 computed_there s _ c z place y r = absurd c
 
-abbrev IsFair : FlatSystem → List Helper → ℕ → Place → Way → Type 0
+abbrev IsFair : FlatSystem → List Helper → ℕ → ReadingPlace → Way → Type 0
 IsFair s hs own p each = IsComputedRead s p.tree
 IsFair s hs own p (entries w) = IsComputedRead s p.tree
 IsFair s hs own p (handed h w) = helper_at hs own p.piece p.site ≡ Some (record { number = h; direction = w })
@@ -111,14 +111,14 @@ record IsTapOf (s : FlatSystem) (hs : List Helper) (own : ℕ) (v : Variable) (t
   of_place : IsPlaceOf 0 v.pieces t.place
   fair : IsFair s hs own t.place t.way
 
-fair_taps : (s : FlatSystem) (hs : List Helper) (own : ℕ) (v : Variable) (p : Place) → IsPlaceOf 0 v.pieces p → (b : Bool) → (b ≡ true → IsComputedRead s p.tree)
-    → (o : Option Handing) → ((h : Handing) → o ≡ Some h → helper_at hs own p.piece p.site ≡ Some h) → AllByRecursion (IsTapOf s hs own v) (taps_by b o p)
+fair_taps : (s : FlatSystem) (hs : List Helper) (own : ℕ) (v : Variable) (p : ReadingPlace) → IsPlaceOf 0 v.pieces p → (b : Bool) → (b ≡ true → IsComputedRead s p.tree)
+    → (o : Option Pipeline) → ((h : Pipeline) → o ≡ Some h → helper_at hs own p.piece p.site ≡ Some h) → AllByRecursion (IsTapOf s hs own v) (taps_by b o p)
 fair_taps s hs own v p is true e None f = (record { of_place = is; fair = e refl }, tt)
 fair_taps s hs own v p is true e (Some h) f = (record { of_place = is; fair = e refl }, (record { of_place = is; fair = f h refl }, tt))
 fair_taps s hs own v p is false e None f = tt
 fair_taps s hs own v p is false e (Some h) f = (record { of_place = is; fair = f h refl }, tt)
 
-place_taps : (s : FlatSystem) (hs : List Helper) (own : ℕ) (v : Variable) (p : Place) → IsPlaceOf 0 v.pieces p → (t : Tree) → p.tree ≡ t → AllByRecursion (IsTapOf s hs own v) (taps_at s hs own t p)
+place_taps : (s : FlatSystem) (hs : List Helper) (own : ℕ) (v : Variable) (p : ReadingPlace) → IsPlaceOf 0 v.pieces p → (t : Tree) → p.tree ≡ t → AllByRecursion (IsTapOf s hs own v) (taps_at s hs own t p)
 place_taps s hs own v p is (reference place m) e =
     fair_taps s hs own v p is (computed_at (slice_get s.variables place)) (λ h. subst (IsComputedRead s) (sym e) h) (helper_at hs own p.piece p.site) (λ h f. f)
 place_taps s hs own v p is (pick place choices n) e = fair_taps s hs own v p is (computed_at (slice_get s.variables place)) (λ h. subst (IsComputedRead s) (sym e) h) None (λ h f. absurd cc)
@@ -130,7 +130,7 @@ all_flat P Q f g (x ∷ xs) h = each_append Q (f x) (flat_map f xs) (g x h.0) (a
 
 taps_are : (s : FlatSystem) (hs : List Helper) (own : ℕ) (v : Variable) → AllByRecursion (IsTapOf s hs own v) (taps s hs own v)
 taps_are s hs own v =
-    let all = all_flat (IsPlaceOf 0 v.pieces) (IsTapOf s hs own v) (λ (p : Place). taps_at s hs own p.tree p) (λ p is. place_taps s hs own v p is p.tree refl) (places_from 0 v.pieces) (places_of 0 v.pieces) in
+    let all = all_flat (IsPlaceOf 0 v.pieces) (IsTapOf s hs own v) (λ (p : ReadingPlace). taps_at s hs own p.tree p) (λ p is. place_taps s hs own v p is p.tree refl) (places_from 0 v.pieces) (places_of 0 v.pieces) in
     let others : Tap → Bool = λ t. not (is_own own t.place.tree) in
     let mine : Tap → Bool = λ t. is_own own t.place.tree in
     each_append (IsTapOf s hs own v) (filter others (all_taps s hs own v)) (filter mine (all_taps s hs own v)) (each_filtered (IsTapOf s hs own v) others (all_taps s hs own v) all) (each_filtered (IsTapOf s hs own v) mine (all_taps s hs own v) all)
@@ -185,7 +185,7 @@ pub record Scheduled (s : FlatSystem) (hs : List Helper) (placings : List Placin
   pub no_reduction : (v : Variable) (k : ℕ) (piece : Piece) → Contains s.variables v → slice_get v.pieces k ≡ Some piece → EachPart (λ u. is_reduction u ≡ false) piece.tree
   pub proper : IsProper s
   -- the law of helpers
-  pub handed_later : (own piece site : ℕ) (h : Handing) (v : Variable) (q : Piece) (t : Time) → slice_get s.variables own ≡ Some v → slice_get v.pieces piece ≡ Some q → helper_at hs own piece site ≡ Some h
+  pub handed_later : (own piece site : ℕ) (h : Pipeline) (v : Variable) (q : Piece) (t : Time) → slice_get s.variables own ≡ Some v → slice_get v.pieces piece ≡ Some q → helper_at hs own piece site ≡ Some h
       → slice_get (map (λ (p : Placing). p.time) placings) (number_at s own) ≡ Some t → (z : Point) → has q.domain z ≡ true → (cycle t (before z h.direction) +ℤ pos 1) ≤ℤ cycle t z
 
 -- ---- each point is in one piece

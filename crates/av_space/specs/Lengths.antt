@@ -8,17 +8,17 @@ use Rattle.av_flat.specs.Trees.{FlatSystem}
 use Rattle.av_flat.specs.declared.timed.Helper.{Helper}
 use Rattle.av_space.specs.declared.cells.Cell.{Cell}
 use Rattle.av_space.specs.declared.cells.Link.{Link}
-use Rattle.av_space.specs.declared.lengths.Line.{Line}
+use Rattle.av_space.specs.declared.lengths.DelayLine.{DelayLine}
 use Rattle.av_space.specs.Links.{line_length}
 
 -- by cell, and then by helper
-abbrev pub line_cmp : Line → Line → Ordering
+abbrev pub line_cmp : DelayLine → DelayLine → Ordering
 line_cmp a b = ordering_then (nat_cmp a.cell b.cell) (option_cmp nat_cmp a.helper b.helper)
 
 -- the length of a line in a table, 0 where it has none
-abbrev pub length_in : BTreeMap Line ℕ → Line → ℕ
+abbrev pub length_in : BTreeMap DelayLine ℕ → DelayLine → ℕ
 length_in table line = unwrap_or (get line_cmp table line) 0
 
 -- the table has the length of each line that these links read
-abbrev pub AreLengths : FlatSystem → List Helper → List Cell → List Link → BTreeMap Line ℕ → Type 0
-AreLengths s hs cells links table = (q : Line) → length_in table q ≡ line_length s hs cells links q.cell q.helper
+abbrev pub AreLengths : FlatSystem → List Helper → List Cell → List Link → BTreeMap DelayLine ℕ → Type 0
+AreLengths s hs cells links table = (q : DelayLine) → length_in table q ≡ line_length s hs cells links q.cell q.helper

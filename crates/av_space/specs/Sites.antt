@@ -2,12 +2,12 @@
 use Rattle.std.specs.Prelude.{ℕ}
 use Rattle.av_flat.specs.declared.tree.Tree.{Tree as TreeMade}
 use Rattle.av_flat.specs.Trees.{view}
-use Rattle.av_space.specs.Taps.{Place}
+use Rattle.av_space.specs.Taps.{ReadingPlace}
 
-pub record PlaceMade : Type 0 where
+pub record ReadingPlaceMade : Type 0 where
   pub piece : ℕ
   pub site : ℕ
   pub tree : TreeMade
 
-abbrev pub place_of : PlaceMade → Place
+abbrev pub place_of : ReadingPlaceMade → ReadingPlace
 place_of p = record { piece = p.piece; site = p.site; tree = view p.tree }

@@ -23,7 +23,7 @@ use Rattle.av_space.specs.declared.spots.Site.{Site}
 use Rattle.av_space.specs.declared.spots.Spot.{Spot}
 use Rattle.av_space.specs.Coordinates.{Placing}
 use Rattle.av_space.specs.Occupancy.{Computes}
-use Rattle.av_space.specs.Taps.{node_place, Handing, helper_at, Place, places_in, Way, each, entries, handed, Tap, taps}
+use Rattle.av_space.specs.Taps.{node_place, Pipeline, helper_at, ReadingPlace, places_in, Way, each, entries, handed, Tap, taps}
 use Rattle.av_space.specs.Links.{IsInLink, AreLinks}
 use Rattle.av_space.specs.Ports.{ArePorts}
 use Rattle.av_space.specs.Whole.{IsWhole}
@@ -99,14 +99,14 @@ pub record AreEnds (slots : List Slot) (ends : Ends) : Type 0 where
 -- ---- places that read
 
 -- the helper of a place that is a reference, of the variable at the place `own`
-abbrev pub handing_by : List Helper → ℕ → Place → Tree → Option Handing
-handing_by hs own p (reference place m) = helper_at hs own p.piece p.site
-handing_by hs own p _ = None
+abbrev pub pipeline_by : List Helper → ℕ → ReadingPlace → Tree → Option Pipeline
+pipeline_by hs own p (reference place m) = helper_at hs own p.piece p.site
+pipeline_by hs own p _ = None
 
 -- a place of the piece, with its helper
 pub record IsSiteOf (a : Array) (at : Spot) (site : Site) : Type 0 where
   pub is_place : Contains (places_in at.number 0 (view at.piece.now.tree)) (place_of site.place)
-  pub handing : site.handing ≡ handing_by (helpers_of a) at.place (place_of site.place) (view site.place.tree)
+  pub pipeline : site.pipeline ≡ pipeline_by (helpers_of a) at.place (place_of site.place) (view site.place.tree)
 
 -- all of them, in the order of the text
 pub record AreSites (a : Array) (at : Spot) (sites : List Site) : Type 0 where
@@ -126,11 +126,11 @@ pub record IsLinkedBy (a : Array) (at : Spot) (c : ℕ) (tap : Tap) (q d : ℕ) 
   pub delay_is : d ≡ link.delay
 
 -- along the pipeline of a helper
-abbrev pub handed_tap : Place → Handing → Tap
+abbrev pub handed_tap : ReadingPlace → Pipeline → Tap
 handed_tap p h = record { place = p; way = handed h.number h.direction }
 
 -- a reference with a helper is read at the entry points of the direction alone
-abbrev pub own_way : Option Handing → Way
+abbrev pub own_way : Option Pipeline → Way
 own_way None = each
 own_way (Some h) = entries h.direction
 
@@ -145,14 +145,14 @@ pub data IsReferenceOrigin (a : Array) (at : Spot) (c i place : ℕ) (m : Map) (
       → IsReferenceOrigin a at c i place m way (origin.Value q d)
 
 -- a pick of the variable at a place reads over a link where a choice holds, and else has its number
-abbrev pub IsPickOrigin : Array → Spot → ℕ → Place → ℕ → ℕ → Option Point → Origin → Type 0
+abbrev pub IsPickOrigin : Array → Spot → ℕ → ReadingPlace → ℕ → ℕ → Option Point → Origin → Type 0
 IsPickOrigin a at c p place n None o = o ≡ origin.Number (record { bits = n })
 IsPickOrigin a at c p place n (Some y) o =
     (q : ℕ) × (d : ℕ) × (read : Variable) × (slice_get (system_of a).variables place ≡ Some read) × IsTrue (is_node read)
     × IsLinkedBy a at c (record { place = p; way = each }) q d × (o ≡ origin.Value q d)
 
 -- where a place of the spot, with its helper, reads itself at a computation
-abbrev pub IsOriginBy : Array → Spot → Slot → Place → Option Handing → Tree → Origin → Type 0
+abbrev pub IsOriginBy : Array → Spot → Slot → ReadingPlace → Option Pipeline → Tree → Origin → Type 0
 IsOriginBy a at t p h (reference place m) o = IsReferenceOrigin a at t.cycle p.site place m (own_way h) o
 IsOriginBy a at t p h (pick place choices n) o = IsPickOrigin a at t.cycle p place n (picked choices t.point) o
 IsOriginBy a at t p h _ o = ⊥

@@ -29,35 +29,35 @@ node_place s n = place_from 0 n s.variables
 
 -- ---- helpers of references
 
--- the helper of a reference: its number, and its direction
-pub record Handing : Type 0 where
+-- the pipeline of a reference: the number of its helper, and its direction
+pub record Pipeline : Type 0 where
   pub number : ℕ
   pub direction : Point
 
 -- the first helper of this reference, where the helpers have the numbers from j on
-abbrev pub helper_from : ℕ → List Helper → ℕ → ℕ → ℕ → Option Handing
+abbrev pub helper_from : ℕ → List Helper → ℕ → ℕ → ℕ → Option Pipeline
 helper_from j [] place piece site = None
 helper_from j (h ∷ hs) place piece site =
     if nat_eq h.var place && nat_eq h.piece piece && nat_eq h.site site then Some (record { number = j; direction = h.direction }) else helper_from (suc j) hs place piece site
 
-abbrev pub helper_at : List Helper → ℕ → ℕ → ℕ → Option Handing
+abbrev pub helper_at : List Helper → ℕ → ℕ → ℕ → Option Pipeline
 helper_at hs place piece site = helper_from 0 hs place piece site
 
 -- where a reference is read: at each point, or with a helper at the points of the set at which it is entered
-abbrev pub IsReadAt : Option Handing → Piece → Point → Type 0
+abbrev pub IsReadAt : Option Pipeline → Piece → Point → Type 0
 IsReadAt None piece z = Unit {0}
 IsReadAt (Some h) piece z = IsEntry piece.domain h.direction z
 
 -- ---- places
 
 -- a place of a piece that reads; of a reference with its number in the piece
-pub record Place : Type 0 where
+pub record ReadingPlace : Type 0 where
   pub piece : ℕ
   pub site : ℕ
   pub tree : Tree
 
 -- the places of a tree that read, in the order of the text; its references have the numbers from n on
-abbrev pub places_in : ℕ → ℕ → Tree → List Place
+abbrev pub places_in : ℕ → ℕ → Tree → List ReadingPlace
 places_in k n (reference place m) = record { piece = k; site = n; tree = reference place m } ∷ []
 places_in k n (binary g l r) = places_in k n l ++ places_in k (n + length (references l)) r
 places_in k n (choice l c r x y) =
@@ -66,7 +66,7 @@ places_in k n (choice l c r x y) =
 places_in k n (pick place choices m) = record { piece = k; site = n; tree = pick place choices m } ∷ []
 places_in k n _ = []
 
-abbrev pub places_from : ℕ → List Piece → List Place
+abbrev pub places_from : ℕ → List Piece → List ReadingPlace
 places_from k [] = []
 places_from k (p ∷ pieces) = places_in k 0 p.tree ++ places_from (suc k) pieces
 
@@ -80,18 +80,18 @@ pub data Way : Type 0 where
   handed : ℕ → Point → Way
 
 pub record Tap : Type 0 where
-  pub place : Place
+  pub place : ReadingPlace
   pub way : Way
 
 -- a reference to a computed variable, and its pipeline; of a reference to an input the pipeline alone
-abbrev pub taps_by : Bool → Option Handing → Place → List Tap
+abbrev pub taps_by : Bool → Option Pipeline → ReadingPlace → List Tap
 taps_by true None p = record { place = p; way = each } ∷ []
 taps_by true (Some h) p = record { place = p; way = entries h.direction } ∷ record { place = p; way = handed h.number h.direction } ∷ []
 taps_by false None p = []
 taps_by false (Some h) p = record { place = p; way = handed h.number h.direction } ∷ []
 
 -- those of one place of the variable at the place `own`
-abbrev pub taps_at : FlatSystem → List Helper → ℕ → Tree → Place → List Tap
+abbrev pub taps_at : FlatSystem → List Helper → ℕ → Tree → ReadingPlace → List Tap
 taps_at s hs own (reference place m) p = taps_by (computed_at (slice_get s.variables place)) (helper_at hs own p.piece p.site) p
 taps_at s hs own (pick place choices n) p = taps_by (computed_at (slice_get s.variables place)) None p
 taps_at s hs own _ p = []

@@ -13,7 +13,7 @@ use crate::cells::Cells;
 use crate::fault::SpaceFault;
 use crate::laying::layout;
 use crate::layout::{Layout, Slot};
-use crate::lengths::Line;
+use crate::lengths::DelayLine;
 use crate::lines::line_lengths;
 use av_base::Memory;
 use av_flat::Timed;
@@ -27,7 +27,7 @@ pub struct Array<'a> {
     pub(crate) cells: &'a Cells,
     pub(crate) layout: Layout,
     /// Of the delay lines that are read.
-    pub(crate) lengths: BTreeMap<Line, u32>,
+    pub(crate) lengths: BTreeMap<DelayLine, u32>,
 }
 
 // The layout of a system that has no quantity above its limit.
@@ -80,7 +80,7 @@ impl<'a> Array<'a> {
         requires cell { cell < length (cells_of self.now) }
         ensures { result ≡ line_length (system_of self.now) (helpers_of self.now) (cells_of self.now) self.now.cells.now.links cell helper }
     {
-        let line = Line {
+        let line = DelayLine {
             cell: cell as u32,
             helper,
         };

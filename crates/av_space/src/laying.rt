@@ -83,7 +83,7 @@ fn slots_of(alloc: Global, ranked: &[Ranked]) -> Result<List<Slot>, Memory>
     Ok(slots)
 }
 
-// Puts the cells of a node behind those of the nodes before, with the computations on each.
+// Appends the cells of a node to those of the nodes before, with the computations on each.
 fn add_node(
     alloc: Global,
     timed: &Timed,

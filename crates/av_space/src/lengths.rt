@@ -1,7 +1,7 @@
 //! A table of the lengths of delay lines.
 
 ghost use Rattle.std.specs.Prelude.{◌≡◌, ◌-◌, ◌^◌, ◌<◌, max, if◌then◌else◌, IfOk, OnOk};
-ghost use Rattle.av_space.specs.declared.lengths.Line.{Line as LineSeen};
+ghost use Rattle.av_space.specs.declared.lengths.DelayLine.{DelayLine as LineSeen};
 ghost use Rattle.av_space.specs.inner.Lengths.{is_line};
 ghost use Rattle.av_space.specs.Lengths.{length_in};
 
@@ -10,15 +10,15 @@ use std::collections::BTreeMap;
 
 /// A delay line: of the value of a cell, or of the pipeline of a helper on it.
 #[derive(Clone, Copy, Debug, PartialEq, Eq, PartialOrd, Ord)]
-pub struct Line {
+pub struct DelayLine {
     pub(crate) cell: u32,
     pub(crate) helper: Option<usize>,
 }
 
 /// Makes a line as long as a delay, where it is shorter; by how much.
 pub(crate) fn lengthened(
-    lengths: &mut BTreeMap<Line, u32>,
-    line: Line,
+    lengths: &mut BTreeMap<DelayLine, u32>,
+    line: DelayLine,
     delay: u32,
 ) -> Result<u32, Memory>
     ensures by { IfOk result (λ by. by ≡ delay - length_in lengths.old line) }

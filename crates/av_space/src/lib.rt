@@ -39,9 +39,9 @@ pub use laws::{
     quantities_are_unique, same_systems_have_the_same_faults, whole_listings,
 };
 pub use layout::{Layout, Slot};
-pub use lengths::Line;
+pub use lengths::DelayLine;
 pub use mapping::map;
 pub use origin::Origin;
 pub use spots::{Ends, Site, Spot, ends_of};
-pub use stretch::Reading;
-pub use tap::{Handing, Place};
+pub use stretch::TapReading;
+pub use tap::{Pipeline, ReadingPlace};

@@ -11,7 +11,7 @@ ghost use Rattle.av_space.specs.inner.Lengths.{line_of};
 
 use crate::cells::Link;
 use crate::layout::Layout;
-use crate::lengths::{Line, lengthened};
+use crate::lengths::{DelayLine, lengthened};
 use crate::linking::{node_taps, taps_of_node};
 use crate::stretch::Stretch;
 use crate::tap::TapSite;
@@ -29,14 +29,19 @@ fn site_at<'s, 'a>(sites: &'s [TapSite<'a>], number: usize) -> &'s TapSite<'a>
 }
 
 // The line that a stretch reads.
-fn line_of(timed: &Timed, layout: &Layout, sites: &[List<TapSite<'_>>], stretch: &Stretch) -> Line
+fn line_of(
+    timed: &Timed,
+    layout: &Layout,
+    sites: &[List<TapSite<'_>>],
+    stretch: &Stretch,
+) -> DelayLine
     requires sites { AreNodeTaps (view_system timed.now.flat) timed.now.helpers sites.now }
     requires stretch { IsStretch (view_system timed.now.flat) timed.now.helpers layout.now.placements layout.now.cells stretch.now }
     ensures { result ≡ line_of (view_system timed.now.flat) timed.now.helpers layout.now.cells stretch.now }
 {
     let cell = &layout.cells.as_slice()[stretch.consumer as usize];
     let own = taps_of_node(sites, cell.node as usize);
-    Line {
+    DelayLine {
         cell: stretch.producer,
         helper: site_at(own, stretch.site).helper(),
     }
@@ -48,7 +53,7 @@ pub(crate) fn line_lengths(
     timed: &Timed,
     layout: &Layout,
     links: &[Link],
-) -> Result<BTreeMap<Line, u32>, Memory>
+) -> Result<BTreeMap<DelayLine, u32>, Memory>
     requires legal { IsLegal timed.now }
     requires layout { IsLayout timed.now layout.now }
     requires links { AreLinks (view_system timed.now.flat) timed.now.helpers layout.now.placements layout.now.cells links.now }

@@ -15,7 +15,7 @@ use crate::layout::{Layout, Slot};
 use crate::locate::locate;
 use crate::node_places::variable_of;
 use crate::reading::{is_in, read_at};
-use crate::stretch::{Reading, Stretch, site_stretches};
+use crate::stretch::{Stretch, TapReading, site_stretches};
 use crate::tap::TapSite;
 use crate::tapping::taps_of;
 use av_base::{List, Memory};
@@ -39,7 +39,7 @@ pub(crate) fn reading_at(
     site: &TapSite<'_>,
     piece: &Piece,
     slot: &Slot,
-) -> Option<Reading>
+) -> Option<TapReading>
     requires legal { IsLegal timed.now }
     requires layout { IsLayout timed.now layout.now }
     requires fine { IsFineTap piece.now.domain.dim (length timed.now.flat.vars) (tap_of site.now) }
@@ -55,7 +55,7 @@ pub(crate) fn reading_at(
     }
     let read = read_at(timed, layout, node, site, piece, &slot.point)?;
     let located = locate(timed, layout, read.node, &read.point);
-    Some(Reading {
+    Some(TapReading {
         cycle: slot.cycle,
         producer: located.cell,
         delay: slot.cycle - located.cycle,
@@ -71,7 +71,7 @@ fn readings(
     site: &TapSite<'_>,
     piece: &Piece,
     slots: &[Slot],
-) -> Result<List<Reading>, Memory>
+) -> Result<List<TapReading>, Memory>
     requires legal { IsLegal timed.now }
     requires layout { IsLayout timed.now layout.now }
     requires fine { IsFineTap piece.now.domain.dim (length timed.now.flat.vars) (tap_of site.now) }
@@ -96,7 +96,7 @@ pub(crate) fn piece_at(var: &Var, number: usize) -> &Piece
     &var.pieces.as_slice()[number]
 }
 
-// Puts the stretches of a tap site of a cell behind others.
+// Appends the stretches of a tap site of a cell.
 fn tap_stretches(
     alloc: Global,
     timed: &Timed,
@@ -128,7 +128,7 @@ fn tap_stretches(
     site_stretches(consumer.number, number, readings.as_slice(), stretches)
 }
 
-// Puts the stretches of all tap sites of a cell behind others.
+// Appends the stretches of all tap sites of a cell.
 fn cell_stretches(
     alloc: Global,
     timed: &Timed,

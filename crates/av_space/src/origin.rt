@@ -16,8 +16,8 @@ use crate::cells::{Cell, InPort};
 use crate::layout::Slot;
 use crate::linking::reading_at;
 use crate::spots::{Site, Spot};
-use crate::stretch::Reading;
-use crate::tap::{Handing, TapSite, Way};
+use crate::stretch::TapReading;
+use crate::tap::{Pipeline, TapSite, Way};
 use crate::tapping::same;
 use av_base::{Point, Word};
 use av_depend::is_computed_at;
@@ -97,11 +97,11 @@ fn port_at(cells: &[Cell], ports: &[InPort], port: &PortPlace) -> usize
 }
 
 // The way in which a place reads itself.
-fn own_way(handing: &Option<Handing>) -> Way
-    ensures { way_of result ≡ own_way handing.now }
+fn own_way(pipeline: &Option<Pipeline>) -> Way
+    ensures { way_of result ≡ own_way pipeline.now }
 {
-    match handing {
-        Some(handing) => Way::Entries(Point::from_slice(handing.direction.as_slice())),
+    match pipeline {
+        Some(pipeline) => Way::Entries(Point::from_slice(pipeline.direction.as_slice())),
         None => Way::Each,
     }
 }
@@ -111,7 +111,7 @@ impl Array<'_> {
     ghost use Rattle.av_space.specs.inner.SpotTaps.{own_tap, IsSpotTap, IsReadThere, IsComputedRead, IsPortSite};
 
     // What a tap site of a piece reads at a computation.
-    fn reading(&self, spot: &Spot<'_>, tap: &TapSite<'_>, slot: &Slot) -> Option<Reading>
+    fn reading(&self, spot: &Spot<'_>, tap: &TapSite<'_>, slot: &Slot) -> Option<TapReading>
         requires array { IsArray self.now }
         requires spot { IsSpot self.now spot.now }
         requires tap { IsSpotTap self.now spot.now (tap_of tap.now) }
@@ -128,7 +128,7 @@ impl Array<'_> {
         requires spot { IsSpot self.now spot.now }
         requires site { IsPortSite self.now spot.now site.now }
         requires slot { IsSlotIn self.now spot.now.cell spot.now.node spot.now.piece.now.domain slot.now }
-        requires entered { IsReadAt site.now.handing (view_piece spot.now.piece.now) slot.now.point }
+        requires entered { IsReadAt site.now.pipeline (view_piece spot.now.piece.now) slot.now.point }
         ensures { slice_get self.now.cells.now.inputs result ≡ Some (record { cell = spot.now.cell; piece = spot.now.number; site = site.now.place.site }) }
     {
         let place = &site.place;
@@ -142,21 +142,21 @@ impl Array<'_> {
     }
 
     // Where a place of a computed variable reads itself: over a link, where it reads.
-    fn linked(&self, spot: &Spot<'_>, site: &Site<'_>, slot: &Slot) -> Option<Reading>
+    fn linked(&self, spot: &Spot<'_>, site: &Site<'_>, slot: &Slot) -> Option<TapReading>
         requires array { IsArray self.now }
         requires spot { IsSpot self.now spot.now }
         requires site { IsSiteOf self.now spot.now site.now }
         requires computed { IsComputedRead (system_of self.now) (view site.now.place.tree) }
         requires slot { IsSlotIn self.now spot.now.cell spot.now.node spot.now.piece.now.domain slot.now }
-        requires entered { IsReadAt site.now.handing (view_piece spot.now.piece.now) slot.now.point }
+        requires entered { IsReadAt site.now.pipeline (view_piece spot.now.piece.now) slot.now.point }
         ensures { MatchOption result
             ((place : ℕ) (y : PointSeen) → IsReadBy (view site.now.place.tree) slot.now.point place y → ⊥)
-            (λ r. IsReadThere self.now spot.now (own_tap (place_of site.now.place) site.now.handing) slot.now
-            × IsLinkedBy self.now spot.now slot.now.cycle (own_tap (place_of site.now.place) site.now.handing) r.producer r.delay) }
+            (λ r. IsReadThere self.now spot.now (own_tap (place_of site.now.place) site.now.pipeline) slot.now
+            × IsLinkedBy self.now spot.now slot.now.cycle (own_tap (place_of site.now.place) site.now.pipeline) r.producer r.delay) }
     {
         let tap = TapSite {
             place: same(&site.place),
-            way: own_way(&site.handing),
+            way: own_way(&site.pipeline),
         };
         self.reading(spot, &tap, slot)
     }
@@ -167,24 +167,24 @@ impl Array<'_> {
         &self,
         spot: &Spot<'_>,
         site: &Site<'_>,
-        handing: &Handing,
+        pipeline: &Pipeline,
         slot: &Slot,
-    ) -> Option<Reading>
+    ) -> Option<TapReading>
         requires array { IsArray self.now }
         requires spot { IsSpot self.now spot.now }
         requires site { IsSiteOf self.now spot.now site.now }
-        requires handing { site.now.handing ≡ Some handing.now }
+        requires pipeline { site.now.pipeline ≡ Some pipeline.now }
         requires slot { IsSlotIn self.now spot.now.cell spot.now.node spot.now.piece.now.domain slot.now }
         ensures { MatchOption result
-            (IsTrue (has spot.now.piece.now.domain (before slot.now.point handing.now.direction)) → ⊥)
-            (λ r. IsTrue (has spot.now.piece.now.domain (before slot.now.point handing.now.direction))
-            × IsLinkedBy self.now spot.now slot.now.cycle (handed_tap (place_of site.now.place) handing.now) r.producer r.delay) }
+            (IsTrue (has spot.now.piece.now.domain (before slot.now.point pipeline.now.direction)) → ⊥)
+            (λ r. IsTrue (has spot.now.piece.now.domain (before slot.now.point pipeline.now.direction))
+            × IsLinkedBy self.now spot.now slot.now.cycle (handed_tap (place_of site.now.place) pipeline.now) r.producer r.delay) }
     {
         let tap = TapSite {
             place: same(&site.place),
             way: Way::Handed(
-                handing.number,
-                Point::from_slice(handing.direction.as_slice()),
+                pipeline.number,
+                Point::from_slice(pipeline.direction.as_slice()),
             ),
         };
         self.reading(spot, &tap, slot)
@@ -196,8 +196,8 @@ impl Array<'_> {
         requires spot { IsSpot self.now spot.now }
         requires site { IsSiteOf self.now spot.now site.now }
         requires slot { IsSlotIn self.now spot.now.cell spot.now.node spot.now.piece.now.domain slot.now }
-        requires entered { IsReadAt site.now.handing (view_piece spot.now.piece.now) slot.now.point }
-        ensures { IsOriginBy self.now spot.now slot.now (place_of site.now.place) site.now.handing (view site.now.place.tree) result }
+        requires entered { IsReadAt site.now.pipeline (view_piece spot.now.piece.now) slot.now.point }
+        ensures { IsOriginBy self.now spot.now slot.now (place_of site.now.place) site.now.pipeline (view site.now.place.tree) result }
     {
         let place = &site.place;
         match place.tree {

@@ -43,7 +43,7 @@ struct NodePiece<'a> {
     last: usize,
 }
 
-// Puts the port of a reference on a cell behind others, with its lines, if it has a read there.
+// Appends the port of a reference on a cell, with its lines, if it has a read there.
 fn add_port(
     alloc: Global,
     site: &InputSite,

@@ -101,7 +101,7 @@ impl ShownNode<'_> {
     }
 }
 
-// Puts the lines of a node behind those of earlier nodes.
+// Appends the lines of a node to those of earlier nodes.
 fn add_lines(alloc: Global, shown: &ShownNode, lines: &mut List<Entry>) -> Result<(), Memory>
     requires node { IsShownNode shown.now }
     requires old { AreLinesBelow shown.now.timed.now shown.now.layout.now shown.now.outputs.now shown.now.node lines.old }

@@ -5,7 +5,7 @@ ghost use Rattle.av_flat.specs.Points.{has};
 ghost use Rattle.av_flat.specs.Trees.{view};
 ghost use Rattle.av_space.specs.Taps.{places_in};
 ghost use Rattle.av_space.specs.Sites.{place_of};
-ghost use Rattle.av_space.specs.Spots.{AreEnds, handing_by};
+ghost use Rattle.av_space.specs.Spots.{AreEnds, pipeline_by};
 ghost use Rattle.av_depend.specs.SetPoints.{IsPointOf};
 
 use crate::array::Array;
@@ -13,7 +13,7 @@ use crate::layout::Slot;
 use crate::linking::piece_at;
 use crate::node_places::variable_of;
 use crate::reading::is_in;
-use crate::tap::{Handing, Place};
+use crate::tap::{Pipeline, ReadingPlace};
 use crate::tapping::{helper_at, same, tree_places};
 use av_base::{List, Memory};
 use av_flat::{Helper, Piece, Tree, Var};
@@ -43,8 +43,8 @@ pub struct Ends {
 /// A place of a piece that reads, with the helper of its reference.
 #[derive(Drop)]
 pub struct Site<'a> {
-    pub place: Place<'a>,
-    pub handing: Option<Handing>,
+    pub place: ReadingPlace<'a>,
+    pub pipeline: Option<Pipeline>,
 }
 
 /// The first and the last cycle of computations by cycle.
@@ -74,8 +74,8 @@ fn slots_in(alloc: Global, slots: &[Slot], set: &Poly) -> Result<List<Slot>, Mem
 }
 
 // The helper of a place that is a reference, of the variable at the place `own`.
-fn handing(helpers: &[Helper], own: usize, place: &Place<'_>) -> Option<Handing>
-    ensures { result ≡ handing_by helpers.now own (place_of place.now) (view place.now.tree) }
+fn pipeline(helpers: &[Helper], own: usize, place: &ReadingPlace<'_>) -> Option<Pipeline>
+    ensures { result ≡ pipeline_by helpers.now own (place_of place.now) (view place.now.tree) }
 {
     match place.tree {
         Tree::Ref { .. } => helper_at(helpers, own, place.piece, place.site),
@@ -84,7 +84,11 @@ fn handing(helpers: &[Helper], own: usize, place: &Place<'_>) -> Option<Handing>
 }
 
 // The places of a piece that read.
-fn places<'a>(alloc: Global, number: usize, piece: &'a Piece) -> Result<List<Place<'a>>, Memory>
+fn places<'a>(
+    alloc: Global,
+    number: usize,
+    piece: &'a Piece,
+) -> Result<List<ReadingPlace<'a>>, Memory>
     ensures { IfOk result (λ places. map place_of places ≡ places_in number 0 (view piece.now.tree)) }
 {
     let mut places = List::new(alloc);
@@ -156,7 +160,7 @@ impl<'a> Array<'a> {
         for place in places.as_slice() {
             sites.push(Site {
                 place: same(place),
-                handing: handing(helpers, spot.place, place),
+                pipeline: pipeline(helpers, spot.place, place),
             })?;
         }
         Ok(sites)

@@ -9,7 +9,7 @@ use std::marker::Model;
 
 /// In this cycle a tap site reads what the producer had some cycles before.
 #[derive(Clone, Copy, Debug, PartialEq, Eq)]
-pub struct Reading {
+pub struct TapReading {
     pub cycle: u32,
     pub producer: u32,
     pub delay: u32,
@@ -53,7 +53,7 @@ impl Stretch {
 }
 
 // The stretch that begins with a reading.
-fn begun(consumer: u32, site: usize, reading: &Reading) -> Stretch
+fn begun(consumer: u32, site: usize, reading: &TapReading) -> Stretch
     ensures { result ≡ record { consumer = consumer; producer = reading.now.producer; site = site; delay = reading.now.delay; first = reading.now.cycle; last = reading.now.cycle } }
 {
     Stretch {
@@ -67,7 +67,7 @@ fn begun(consumer: u32, site: usize, reading: &Reading) -> Stretch
 }
 
 // Whether the reading has the producer and the delay of the stretch.
-fn continues(stretch: &Stretch, reading: &Reading) -> bool
+fn continues(stretch: &Stretch, reading: &TapReading) -> bool
     ensures { IsTrue result ↔ ((reading.now.producer ≡ stretch.now.producer) × (reading.now.delay ≡ stretch.now.delay)) }
 {
     reading.producer == stretch.producer && reading.delay == stretch.delay
@@ -83,11 +83,11 @@ fn prolonged(stretch: Stretch, cycle: u32) -> Stretch
     }
 }
 
-/// Puts the stretches of the readings of a tap site behind others.
+/// Appends the stretches of the readings of a tap site.
 pub(crate) fn site_stretches(
     consumer: u32,
     site: usize,
-    readings: &[Reading],
+    readings: &[TapReading],
     stretches: &mut List<Stretch>,
 ) -> Result<(), Memory>
     requires { AreByCycle readings.now }

@@ -18,35 +18,35 @@ pub(crate) enum Way {
     Handed(usize, Point),
 }
 
-/// The helper of a reference: its number, and its direction.
+/// The pipeline of a reference: the number of its helper, and its direction.
 #[derive(Debug, Drop)]
-pub struct Handing {
+pub struct Pipeline {
     pub number: usize,
     pub direction: Point,
 }
 
-impl Model for Handing {
-    ghost use Rattle.av_space.specs.Taps.{Handing as HandingSeen};
+impl Model for Pipeline {
+    ghost use Rattle.av_space.specs.Taps.{Pipeline as PipelineSeen};
 
-    ghost Value = { HandingSeen };
+    ghost Value = { PipelineSeen };
 
     ghost view = { λ h. record { number = h.number; direction = h.direction } };
 }
 
 /// A place of a piece that reads: the number of the piece, and of the reference in it.
 #[derive(Debug, Drop)]
-pub struct Place<'a> {
+pub struct ReadingPlace<'a> {
     pub piece: usize,
     pub site: usize,
     pub tree: &'a Tree,
 }
 
-impl<'a> Model for Place<'a> {
+impl<'a> Model for ReadingPlace<'a> {
     ghost use Rattle.std.specs.Coded.{codes};
     ghost use Rattle.av_flat.specs.contracts.tree.Tree as made;
-    ghost use Rattle.av_space.specs.Sites.{PlaceMade};
+    ghost use Rattle.av_space.specs.Sites.{ReadingPlaceMade};
 
-    ghost Value = { PlaceMade };
+    ghost Value = { ReadingPlaceMade };
 
     ghost coded = { Prim.hlevel (codes, made.the_row.coded) };
 
@@ -56,7 +56,7 @@ impl<'a> Model for Place<'a> {
 /// A place with one of the ways in which it reads.
 #[derive(Debug, Drop)]
 pub(crate) struct TapSite<'a> {
-    pub(crate) place: Place<'a>,
+    pub(crate) place: ReadingPlace<'a>,
     pub(crate) way: Way,
 }
 

@@ -6,37 +6,37 @@ ghost use Rattle.av_space.specs.Taps.{places_from, helper_at, taps_by, taps_at, 
 ghost use Rattle.av_space.specs.inner.Sites.{HasPlaces, tap_of, taps_where};
 ghost use Rattle.av_space.specs.Sites.{place_of};
 
-use crate::tap::{Handing, Place, TapSite, Way};
+use crate::tap::{Pipeline, ReadingPlace, TapSite, Way};
 use av_base::{List, Memory, Point};
 use av_depend::is_computed_at;
 use av_flat::{Helper, Piece, Timed, Tree, Var};
 use std::alloc::Global;
 
 // The number after that of a reference that stands among the places.
-fn next_site(site: usize, places: &[Place<'_>]) -> usize
+fn next_site(site: usize, places: &[ReadingPlace<'_>]) -> usize
     requires { site < length places.now }
     ensures { result ≡ site + 1 }
 {
     site + 1
 }
 
-/// Puts the places of a tree behind others; the number of the next reference.
+/// Appends the places of a tree; the number of the next reference.
 pub(crate) fn tree_places<'a>(
     piece: usize,
     site: usize,
     tree: &'a Tree,
-    places: &mut List<Place<'a>>,
+    places: &mut List<ReadingPlace<'a>>,
 ) -> Result<usize, Memory>
     requires { site ≤ length places.old }
     ensures { IfOk result (HasPlaces piece site tree.now places.old places.new) }
 {
     match tree {
         Tree::Ref { .. } => {
-            places.push(Place { piece, site, tree })?;
+            places.push(ReadingPlace { piece, site, tree })?;
             Ok(next_site(site, places.as_slice()))
         }
         Tree::Pick { .. } => {
-            places.push(Place { piece, site, tree })?;
+            places.push(ReadingPlace { piece, site, tree })?;
             Ok(site)
         }
         Tree::Binary { left, right, .. } => {
@@ -60,7 +60,7 @@ pub(crate) fn tree_places<'a>(
 }
 
 // The places of pieces that read, in order.
-fn piece_places<'a>(alloc: Global, pieces: &'a [Piece]) -> Result<List<Place<'a>>, Memory>
+fn piece_places<'a>(alloc: Global, pieces: &'a [Piece]) -> Result<List<ReadingPlace<'a>>, Memory>
     ensures { IfOk result (λ places. map place_of places ≡ places_from 0 (map view_piece pieces.now)) }
 {
     let mut places = List::new(alloc);
@@ -83,12 +83,12 @@ pub(crate) fn helper_at(
     place: usize,
     piece: usize,
     site: usize,
-) -> Option<Handing>
+) -> Option<Pipeline>
     ensures { result ≡ helper_at helpers.now place piece site }
 {
     for (number, helper) in helpers.iter().enumerate() {
         if is_of(helper, place, piece, site) {
-            return Some(Handing {
+            return Some(Pipeline {
                 number,
                 direction: Point::from_slice(helper.direction.as_slice()),
             });
@@ -98,26 +98,26 @@ pub(crate) fn helper_at(
 }
 
 /// The same place.
-pub(crate) fn same<'a>(place: &Place<'a>) -> Place<'a>
+pub(crate) fn same<'a>(place: &ReadingPlace<'a>) -> ReadingPlace<'a>
     ensures { result ≡ place.now }
 {
-    Place {
+    ReadingPlace {
         piece: place.piece,
         site: place.site,
         tree: place.tree,
     }
 }
 
-// Puts the tap sites of a place behind others: of a pipelined one the entry reads before the pipeline's own.
+// Appends the tap sites of a place: of a pipelined one the entry reads before the pipeline's own.
 fn add_taps_by<'a>(
     computed: bool,
-    handing: Option<Handing>,
-    place: &Place<'a>,
+    pipeline: Option<Pipeline>,
+    place: &ReadingPlace<'a>,
     sites: &mut List<TapSite<'a>>,
 ) -> Result<(), Memory>
-    ensures { OnOk result (map tap_of sites.new ≡ map tap_of sites.old ++ taps_by computed handing (place_of place.now)) }
+    ensures { OnOk result (map tap_of sites.new ≡ map tap_of sites.old ++ taps_by computed pipeline (place_of place.now)) }
 {
-    let Some(handing) = handing else {
+    let Some(pipeline) = pipeline else {
         if computed {
             sites.push(TapSite {
                 place: same(place),
@@ -129,20 +129,20 @@ fn add_taps_by<'a>(
     if computed {
         sites.push(TapSite {
             place: same(place),
-            way: Way::Entries(Point::from_slice(handing.direction.as_slice())),
+            way: Way::Entries(Point::from_slice(pipeline.direction.as_slice())),
         })?;
     }
     sites.push(TapSite {
         place: same(place),
-        way: Way::Handed(handing.number, handing.direction),
+        way: Way::Handed(pipeline.number, pipeline.direction),
     })
 }
 
-// Puts the tap sites of a place of the variable at the place `own` behind others.
+// Appends the tap sites of a place of the variable at the place `own`.
 fn add_taps<'a>(
     timed: &Timed,
     own: usize,
-    place: &Place<'a>,
+    place: &ReadingPlace<'a>,
     sites: &mut List<TapSite<'a>>,
 ) -> Result<(), Memory>
     ensures { OnOk result (map tap_of sites.new ≡ map tap_of sites.old
@@ -151,8 +151,8 @@ fn add_taps<'a>(
     match place.tree {
         Tree::Ref { var, .. } => {
             let helpers = timed.helpers.as_slice();
-            let handing = helper_at(helpers, own, place.piece, place.site);
-            add_taps_by(is_computed_at(&timed.flat, *var), handing, place, sites)
+            let pipeline = helper_at(helpers, own, place.piece, place.site);
+            add_taps_by(is_computed_at(&timed.flat, *var), pipeline, place, sites)
         }
         Tree::Pick { var, .. } => {
             add_taps_by(is_computed_at(&timed.flat, *var), None, place, sites)
@@ -162,7 +162,7 @@ fn add_taps<'a>(
 }
 
 // Whether the place is a pick of the variable at the place `own`.
-fn is_own(own: usize, place: &Place<'_>) -> bool
+fn is_own(own: usize, place: &ReadingPlace<'_>) -> bool
     ensures { result ≡ is_own own (view place.now.tree) }
 {
     match place.tree {
@@ -171,12 +171,12 @@ fn is_own(own: usize, place: &Place<'_>) -> bool
     }
 }
 
-// Puts the tap sites of those places behind others that are picks of the variable itself, or of those that are not.
+// Appends the tap sites of those places that are picks of the variable itself, or of those that are not.
 fn add_taps_of<'a>(
     timed: &Timed,
     own: usize,
     picks: bool,
-    places: &[Place<'a>],
+    places: &[ReadingPlace<'a>],
     sites: &mut List<TapSite<'a>>,
 ) -> Result<(), Memory>
     ensures { OnOk result (map tap_of sites.new ≡ map tap_of sites.old

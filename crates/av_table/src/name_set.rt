@@ -31,7 +31,7 @@ impl<'a> NameSet<'a> {
         }
     }
 
-    /// Puts a name behind the others, unless it is among them. Whether it was not.
+    /// Appends a name, unless it is among them. Whether it was not.
     pub fn insert(&mut self, name: &'a [u8]) -> Result<bool, Memory>
         ensures is_new { IfOk result (λ is_new. is_new ≡ not (list_any (bytes_eq name.now) self.old)) }
         ensures all { OnOk result (self.new ≡ (if list_any (bytes_eq name.now) self.old then self.old else self.old ++ name.now ∷ [])) }

@@ -15,7 +15,7 @@ use av_tree::System;
 use std::alloc::Global;
 use std::test::Fail;
 
-// Puts a size behind others, where it is small as they are.
+// Appends a size, where it is small as they are.
 fn push_small(sizes: &mut Vec<Size>, name: Name, value: i64) -> Result<(), Memory>
     requires before { AreSmall sizes.old.items }
     requires small { unsigned_abs value ≤ 1048576 }

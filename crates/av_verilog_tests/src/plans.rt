@@ -290,14 +290,14 @@ fn step(alloc: Global) -> Result<Step, Memory>
 
 // The ports, wires and registers of the top.
 #[derive(Drop)]
-struct Declared {
+struct TopSignals {
     inputs: List<Port>,
     outputs: List<Port>,
     wires: List<Port>,
     registers: List<Port>,
 }
 
-fn declarations(alloc: Global) -> Result<Declared, Memory>
+fn declarations(alloc: Global) -> Result<TopSignals, Memory>
     ensures inputs { IfOk result (λ d. d.inputs ≡ port_of (codes "i") four_bits ∷ []) }
     ensures outputs { IfOk result (λ d. d.outputs ≡ port_of (codes "o") eight_bits ∷ port_of (codes "p") two_bits ∷ []) }
     ensures wires { IfOk result (λ d. d.wires ≡ port_of (codes "c") four_bits ∷ port_of (codes "d") four_bits ∷ []) }
@@ -307,7 +307,7 @@ fn declarations(alloc: Global) -> Result<Declared, Memory>
     let outputs = two_ports(alloc, "o", eight_wide(), "p", two_wide())?;
     let wires = two_ports(alloc, "c", four_wide(), "d", four_wide())?;
     let registers = one_port(alloc, "q", four_wide())?;
-    Ok(Declared {
+    Ok(TopSignals {
         inputs,
         outputs,
         wires,

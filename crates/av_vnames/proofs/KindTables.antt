@@ -10,7 +10,7 @@ use Rattle.av_net.specs.declared.netlist.Port.{Port}
 use Rattle.av_net.specs.declared.plan.CellKind.{CellKind}
 use Rattle.av_net.specs.Flat.{no_kind}
 use Rattle.av_net.specs.Names.{width_in}
-use Rattle.av_net.specs.Grammar.{Link, Instantiation, instance}
+use Rattle.av_net.specs.Grammar.{PortLink, Instantiation, instance}
 use Rattle.av_net.specs.Rows.{first_from, kind_named, driven_by, driven_by_link}
 use Rattle.av_vnames.specs.Numbered.{place_among, number_of}
 use Rattle.av_vnames.specs.Scoped.{Bytes}
@@ -21,7 +21,7 @@ use Rattle.av_vnames.proofs.RowWalks.{same_widths}
 
 -- ---- no kind
 
-no_driven : (links : List Link) → flat_map (driven_by_link no_kind) links ≡ []
+no_driven : (links : List PortLink) → flat_map (driven_by_link no_kind) links ≡ []
 no_driven [] = refl
 no_driven (link ∷ links) = no_driven links
 

@@ -7,8 +7,8 @@ use Rattle.av_net.specs.Names.{width_in}
 use Rattle.av_net.specs.Rows.{is_in, wires_of, registers_in}
 use Rattle.av_vnames.specs.Scoped.{Bytes, texts}
 use Rattle.av_vnames.specs.inner.Scoped.{width_found}
-use Rattle.av_vparse.specs.declared.parsed.Declaration.{Declaration as FoundDeclaration}
-use Rattle.av_vparse.specs.declared.parsed.Declaration.TheVariants as declaration
+use Rattle.av_vparse.specs.declared.parsed.SignalDeclaration.{SignalDeclaration as FoundDeclaration}
+use Rattle.av_vparse.specs.declared.parsed.SignalDeclaration.TheVariants as declaration
 use Rattle.av_vparse.specs.Said.{said_declaration}
 use Rattle.av_vnames.proofs.Walks.{put_in, any_or_of, found_more, or_one, width_or_one}
 use denote.Ref.{Bor}

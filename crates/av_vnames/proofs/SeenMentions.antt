@@ -9,7 +9,7 @@ use Rattle.std.proofs.lemmas.Slice.Eq.{bytes_eq-Decides}
 use Rattle.av_base.proofs.Lists.{next_item, nothing_left, same_default}
 use Rattle.av_net.specs.declared.plan.CellKind.{CellKind}
 use Rattle.av_net.specs.Names.{clk, rst}
-use Rattle.av_net.specs.Grammar.{Link}
+use Rattle.av_net.specs.Grammar.{PortLink}
 use Rattle.av_net.specs.Rows.{is_in, first_from, Mention, of_module, declares, drives, links, mentioned, is_same, first_again, driven_by_link, link_mentions}
 use Rattle.av_vnames.specs.declared.twice.Seen.{Seen as FoundSeen}
 use Rattle.av_vnames.specs.Scoped.{Bytes, texts}
@@ -200,14 +200,14 @@ drives_in u old new linked q found tells = λ earlier h.
     )
 
 -- a link that drives a name
-pub name_told : (kind : CellKind) (u : Bytes) (seen new : FoundSeen) (old linked : List Bytes) (link : Link) (q : Bytes) (found : Option Bytes) → IsPut old linked link.port None → q ∷ [] ≡ driven_by_link kind link
+pub name_told : (kind : CellKind) (u : Bytes) (seen new : FoundSeen) (old linked : List Bytes) (link : PortLink) (q : Bytes) (found : Option Bytes) → IsPut old linked link.port None → q ∷ [] ≡ driven_by_link kind link
     → Tells Stands seen new (drives q ∷ []) found → Tells (StandsIn u) (seen, old) (new, linked) (link_mentions kind u link) found
 name_told kind u seen new old linked link q found put driven tells =
     subst (λ names. Tells (StandsIn u) (seen, old) (new, linked) (links u link.port ∷ map drives names) found) driven
     (tells_more (StandsIn u) (seen, old) (seen, linked) (new, linked) (links u link.port ∷ []) (drives q ∷ []) found (put_linked u seen old linked link.port None put) (drives_in u seen new linked q found tells))
 
 -- and one that drives none
-pub none_told : (kind : CellKind) (u : Bytes) (seen : FoundSeen) (old linked : List Bytes) (link : Link) → IsPut old linked link.port None → [] ≡ driven_by_link kind link
+pub none_told : (kind : CellKind) (u : Bytes) (seen : FoundSeen) (old linked : List Bytes) (link : PortLink) → IsPut old linked link.port None → [] ≡ driven_by_link kind link
     → Tells (StandsIn u) (seen, old) (seen, linked) (link_mentions kind u link) None
 none_told kind u seen old linked link put driven =
     subst (λ names. Tells (StandsIn u) (seen, old) (seen, linked) (links u link.port ∷ map drives names) None) driven (put_linked u seen old linked link.port None put)
@@ -218,7 +218,7 @@ not_told : (t : Bool) (y : Bytes) → None ≡ (if t then Some y else None) → 
 not_told true y e = absurd cc
 not_told false y e = refl
 
-pub instance_told : (u : Bytes) (old mid new : FoundSeen) (linked : List Bytes) (found kind : CellKind) (ls : List Link) (told : Option Bytes) → found ≡ kind → Tells Stands old mid (declares u ∷ []) None
+pub instance_told : (u : Bytes) (old mid new : FoundSeen) (linked : List Bytes) (found kind : CellKind) (ls : List PortLink) (told : Option Bytes) → found ≡ kind → Tells Stands old mid (declares u ∷ []) None
     → (none : List Bytes) → none ≡ [] → Tells (StandsIn u) (mid, none) (new, linked) (flat_map (link_mentions found u) ls) told → Tells Stands old new (declares u ∷ flat_map (link_mentions kind u) ls) told
 instance_told u old mid new linked found kind ls told same first none empty second = λ earlier h.
     let ms : List Mention = flat_map (link_mentions kind u) ls in

@@ -2,7 +2,7 @@
 use Rattle.std.specs.Prelude.{◌≡◌, ◌++◌}
 use Rattle.av_net.specs.Names.{names_of, width_in}
 use Rattle.av_net.specs.Rows.{is_in}
-use Rattle.av_vnames.specs.declared.kind.Kind.TheInside.{Inside}
+use Rattle.av_vnames.specs.declared.kind.IndexedKind.TheInside.{Inside}
 use Rattle.av_vnames.specs.Scoped.{Bytes}
 
 -- the ports of a kind are found by their names

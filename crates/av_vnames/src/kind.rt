@@ -16,14 +16,14 @@ use std::marker::Model;
 
 /// A kind of cell with its ports, found by their names. Contracts see the kind.
 #[derive(Drop)]
-pub struct Kind<'a> {
+pub struct IndexedKind<'a> {
     of: &'a ModuleText,
     inputs: NameSet<'a>,
     outputs: NameSet<'a>,
     widths: Widths<'a>,
 }
 
-impl<'a> Model for Kind<'a> {
+impl<'a> Model for IndexedKind<'a> {
     ghost use Rattle.av_net.specs.declared.plan.CellKind.{CellKind as Cell};
     ghost use Rattle.av_net.specs.Rows.{kind_from};
     ghost use Rattle.av_vparse.specs.Said.{said_module};
@@ -36,20 +36,20 @@ impl<'a> Model for Kind<'a> {
     ghost invariant = { HasPorts };
 }
 
-impl<'a> Kind<'a> {
+impl<'a> IndexedKind<'a> {
     // That of a text whose ports have these names.
     fn with_names(
         alloc: Global,
         of: &'a ModuleText,
         inputs: NameSet<'a>,
         outputs: NameSet<'a>,
-    ) -> Result<Kind<'a>, Memory>
+    ) -> Result<IndexedKind<'a>, Memory>
         requires inputs { (q : Bytes) → is_in inputs q ≡ is_in (names_of of.now.inputs) q }
         requires outputs { (q : Bytes) → is_in outputs q ≡ is_in (names_of of.now.outputs) q }
         ensures { IfOk result (λ kind. kind ≡ kind_from (said_module of.now)) }
     {
         let widths = scope::port_widths(alloc, of)?;
-        Ok(Kind {
+        Ok(IndexedKind {
             of,
             inputs,
             outputs,
@@ -58,12 +58,12 @@ impl<'a> Kind<'a> {
     }
 
     /// That of a text.
-    pub fn new(alloc: Global, of: &'a ModuleText) -> Result<Kind<'a>, Memory>
+    pub fn new(alloc: Global, of: &'a ModuleText) -> Result<IndexedKind<'a>, Memory>
         ensures { IfOk result (λ kind. kind ≡ kind_from (said_module of.now)) }
     {
         let inputs = scope::port_names(alloc, of.inputs.as_slice())?;
         let outputs = scope::port_names(alloc, of.outputs.as_slice())?;
-        Kind::with_names(alloc, of, inputs, outputs)
+        IndexedKind::with_names(alloc, of, inputs, outputs)
     }
 
     /// Its text.

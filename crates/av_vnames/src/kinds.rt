@@ -7,7 +7,7 @@ ghost use Rattle.av_net.specs.Rows.{kind_from, kind_named};
 ghost use Rattle.av_vparse.specs.Said.{said_module};
 ghost use Rattle.av_vnames.specs.Numbered.{number_of};
 
-use crate::kind::Kind;
+use crate::kind::IndexedKind;
 use av_base::{List, Memory};
 use av_table::NameMap;
 use av_vparse::ModuleText;
@@ -18,7 +18,7 @@ use std::marker::Model;
 #[derive(Drop)]
 pub struct Kinds<'a> {
     numbers: NameMap<'a, usize>,
-    kinds: Vec<Kind<'a>>,
+    kinds: Vec<IndexedKind<'a>>,
 }
 
 impl<'a> Model for Kinds<'a> {
@@ -33,18 +33,18 @@ impl<'a> Model for Kinds<'a> {
     ghost invariant = { AreNumbered };
 }
 
-// Puts a kind behind others, and its number under its name, if that is new.
+// Appends a kind, and its number under its name, if that is new.
 fn push_kind<'a>(
     alloc: Global,
     numbers: &mut NameMap<'a, usize>,
-    kinds: &mut Vec<Kind<'a>>,
+    kinds: &mut Vec<IndexedKind<'a>>,
     text: &'a ModuleText,
 ) -> Result<(), Memory>
     ensures kinds { OnOk result (kinds.new.items ≡ kinds.old.items ++ kind_from (said_module text.now) ∷ []) }
     ensures numbers { OnOk result (numbers.new ≡ (if is_some (lookup (bytes_eq text.now.name) numbers.old) then numbers.old else (numbers.old ++ (text.now.name, length kinds.old.items) ∷ []))) }
 {
     numbers.insert(text.name.as_str().as_bytes(), kinds.len())?;
-    kinds.push(Kind::new(alloc, text)?)?;
+    kinds.push(IndexedKind::new(alloc, text)?)?;
     Ok(())
 }
 
@@ -71,7 +71,7 @@ impl<'a> Kinds<'a> {
     }
 
     /// The first kind with this name.
-    pub fn named(&self, name: &str) -> Option<&Kind<'a>>
+    pub fn named(&self, name: &str) -> Option<&IndexedKind<'a>>
         ensures { option_map (λ kind. kind.now) result ≡ kind_named self.now name.now }
     {
         match self.number(name) {

@@ -8,7 +8,7 @@ pub mod scope;
 pub mod twice;
 mod widths;
 
-pub use kind::Kind;
+pub use kind::IndexedKind;
 pub use kinds::Kinds;
 pub use names::set_of;
 pub use widths::Widths;

@@ -9,14 +9,14 @@ ghost use Rattle.av_vparse.specs.Said.{said_declaration, said_link, said_instanc
 ghost use Rattle.av_vnames.specs.Scoped.{texts, Bytes};
 ghost use Rattle.av_vnames.specs.inner.Scoped.{listed, width_found};
 
-use crate::kind::Kind;
+use crate::kind::IndexedKind;
 use crate::kinds::Kinds;
 use crate::names::set_of;
 use crate::widths::Widths;
 use av_base::Memory;
 use av_net::{Operand, Port};
 use av_table::NameSet;
-use av_vparse::{Declaration, Instantiation, Item, Link, ModuleText};
+use av_vparse::{Instantiation, Item, ModuleText, PortLink, SignalDeclaration};
 use std::alloc::Global;
 
 pub(crate) fn push_ports<'a>(names: &mut Vec<&'a str>, ports: &'a [Port]) -> Result<(), Memory>
@@ -30,7 +30,7 @@ pub(crate) fn push_ports<'a>(names: &mut Vec<&'a str>, ports: &'a [Port]) -> Res
 
 fn push_declared<'a>(
     names: &mut Vec<&'a str>,
-    declarations: &'a [Declaration],
+    declarations: &'a [SignalDeclaration],
 ) -> Result<(), Memory>
     ensures { OnOk result (texts names.new.items ≡ texts names.old.items ++ declared_names (map said_declaration declarations.now)) }
 {
@@ -40,19 +40,22 @@ fn push_declared<'a>(
     Ok(())
 }
 
-fn push_wire<'a>(names: &mut Vec<&'a str>, declaration: &'a Declaration) -> Result<(), Memory>
+fn push_wire<'a>(names: &mut Vec<&'a str>, declaration: &'a SignalDeclaration) -> Result<(), Memory>
     ensures { OnOk result (texts names.new.items ≡ texts names.old.items ++ names_of (wires_of (said_declaration declaration.now ∷ []))) }
 {
     match declaration {
-        Declaration::Wire(port) => {
+        SignalDeclaration::Wire(port) => {
             names.push(port.name.as_str())?;
             Ok(())
         }
-        Declaration::Register(_) => Ok(()),
+        SignalDeclaration::Register(_) => Ok(()),
     }
 }
 
-fn push_wires<'a>(names: &mut Vec<&'a str>, declarations: &'a [Declaration]) -> Result<(), Memory>
+fn push_wires<'a>(
+    names: &mut Vec<&'a str>,
+    declarations: &'a [SignalDeclaration],
+) -> Result<(), Memory>
     ensures { OnOk result (texts names.new.items ≡ texts names.old.items ++ names_of (wires_of (map said_declaration declarations.now))) }
 {
     for declaration in declarations {
@@ -61,21 +64,24 @@ fn push_wires<'a>(names: &mut Vec<&'a str>, declarations: &'a [Declaration]) -> 
     Ok(())
 }
 
-fn push_register<'a>(names: &mut Vec<&'a str>, declaration: &'a Declaration) -> Result<(), Memory>
+fn push_register<'a>(
+    names: &mut Vec<&'a str>,
+    declaration: &'a SignalDeclaration,
+) -> Result<(), Memory>
     ensures { OnOk result (texts names.new.items ≡ texts names.old.items ++ names_of (registers_in (said_declaration declaration.now ∷ []))) }
 {
     match declaration {
-        Declaration::Register(port) => {
+        SignalDeclaration::Register(port) => {
             names.push(port.name.as_str())?;
             Ok(())
         }
-        Declaration::Wire(_) => Ok(()),
+        SignalDeclaration::Wire(_) => Ok(()),
     }
 }
 
 fn push_registers<'a>(
     names: &mut Vec<&'a str>,
-    declarations: &'a [Declaration],
+    declarations: &'a [SignalDeclaration],
 ) -> Result<(), Memory>
     ensures { OnOk result (texts names.new.items ≡ texts names.old.items ++ names_of (registers_in (map said_declaration declarations.now))) }
 {
@@ -117,7 +123,7 @@ pub fn linkable<'a>(alloc: Global, text: &'a ModuleText) -> Result<Vec<&'a str>,
 }
 
 /// The name that a link to an output port of its kind drives.
-pub(crate) fn driven_by_link<'a>(kind: &Kind, link: &'a Link) -> Option<&'a str>
+pub(crate) fn driven_by_link<'a>(kind: &IndexedKind, link: &'a PortLink) -> Option<&'a str>
     ensures { listed (option_map (λ name. name.now) result) ≡ driven_by_link kind.now (said_link link.now) }
 {
     match &link.operand {
@@ -126,7 +132,11 @@ pub(crate) fn driven_by_link<'a>(kind: &Kind, link: &'a Link) -> Option<&'a str>
     }
 }
 
-fn push_linked<'a>(names: &mut Vec<&'a str>, kind: &Kind, links: &'a [Link]) -> Result<(), Memory>
+fn push_linked<'a>(
+    names: &mut Vec<&'a str>,
+    kind: &IndexedKind,
+    links: &'a [PortLink],
+) -> Result<(), Memory>
     ensures { OnOk result (texts names.new.items ≡ texts names.old.items ++ flat_map (driven_by_link kind.now) (map said_link links.now)) }
 {
     for link in links {
@@ -150,7 +160,7 @@ fn push_instance<'a>(
     }
 }
 
-/// Puts the names that an item drives behind others.
+/// Appends the names that an item drives.
 pub fn push_driven<'a>(
     names: &mut Vec<&'a str>,
     kinds: &Kinds,
@@ -238,18 +248,21 @@ fn insert_ports<'a>(widths: &mut Widths<'a>, ports: &'a [Port]) -> Result<(), Me
     Ok(())
 }
 
-fn insert_register<'a>(widths: &mut Widths<'a>, declaration: &'a Declaration) -> Result<(), Memory>
+fn insert_register<'a>(
+    widths: &mut Widths<'a>,
+    declaration: &'a SignalDeclaration,
+) -> Result<(), Memory>
     ensures { OnOk result ((q : Bytes) → width_found widths.new q ≡ width_found (widths.old ++ registers_in (said_declaration declaration.now ∷ [])) q) }
 {
     match declaration {
-        Declaration::Register(port) => widths.insert(port),
-        Declaration::Wire(_) => Ok(()),
+        SignalDeclaration::Register(port) => widths.insert(port),
+        SignalDeclaration::Wire(_) => Ok(()),
     }
 }
 
 fn insert_registers<'a>(
     widths: &mut Widths<'a>,
-    declarations: &'a [Declaration],
+    declarations: &'a [SignalDeclaration],
 ) -> Result<(), Memory>
     ensures { OnOk result ((q : Bytes) → width_found widths.new q ≡ width_found (widths.old ++ registers_in (map said_declaration declarations.now)) q) }
 {
@@ -259,16 +272,22 @@ fn insert_registers<'a>(
     Ok(())
 }
 
-fn insert_wire<'a>(widths: &mut Widths<'a>, declaration: &'a Declaration) -> Result<(), Memory>
+fn insert_wire<'a>(
+    widths: &mut Widths<'a>,
+    declaration: &'a SignalDeclaration,
+) -> Result<(), Memory>
     ensures { OnOk result ((q : Bytes) → width_found widths.new q ≡ width_found (widths.old ++ wires_of (said_declaration declaration.now ∷ [])) q) }
 {
     match declaration {
-        Declaration::Wire(port) => widths.insert(port),
-        Declaration::Register(_) => Ok(()),
+        SignalDeclaration::Wire(port) => widths.insert(port),
+        SignalDeclaration::Register(_) => Ok(()),
     }
 }
 
-fn insert_wires<'a>(widths: &mut Widths<'a>, declarations: &'a [Declaration]) -> Result<(), Memory>
+fn insert_wires<'a>(
+    widths: &mut Widths<'a>,
+    declarations: &'a [SignalDeclaration],
+) -> Result<(), Memory>
     ensures { OnOk result ((q : Bytes) → width_found widths.new q ≡ width_found (widths.old ++ wires_of (map said_declaration declarations.now)) q) }
 {
     for declaration in declarations {

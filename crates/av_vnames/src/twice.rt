@@ -11,14 +11,14 @@ ghost use Rattle.av_vnames.specs.Scoped.{texts, Bytes};
 ghost use Rattle.av_vnames.specs.inner.Scoped.{listed, instances_named, own_names};
 ghost use Rattle.av_vnames.specs.inner.Seen.{IsPut, Stands, StandsIn, Tells, standing, own_declared, own_mentions};
 
-use crate::kind::Kind;
+use crate::kind::IndexedKind;
 use crate::kinds::Kinds;
 use crate::names::set_of;
 use crate::scope;
 use av_base::Memory;
 use av_net::Port;
 use av_table::NameSet;
-use av_vparse::{Instantiation, Item, Link, ModuleText, Text};
+use av_vparse::{Instantiation, Item, ModuleText, PortLink, Text};
 use std::alloc::Global;
 
 // Puts a name among others. The name, if it was there.
@@ -33,7 +33,7 @@ fn put<'a>(names: &mut NameSet<'a>, name: &'a str) -> Result<Option<&'a str>, Me
 }
 
 // The name that a link drives, unless there is no such kind.
-fn driven<'a>(kind: Option<&Kind>, link: &'a Link) -> Option<&'a str>
+fn driven<'a>(kind: Option<&IndexedKind>, link: &'a PortLink) -> Option<&'a str>
     ensures { listed (option_map (λ name. name.now) result) ≡ driven_by_link (kind_or (option_map (λ kind. kind.now) kind.entry)) (said_link link.now) }
 {
     match kind {
@@ -93,8 +93,8 @@ impl<'a> Seen<'a> {
     fn links(
         &mut self,
         linked: &mut NameSet<'a>,
-        kind: Option<&Kind>,
-        link: &'a Link,
+        kind: Option<&IndexedKind>,
+        link: &'a PortLink,
     ) -> Result<Option<&'a str>, Memory>
         ensures { IfOk result (λ r. (u : Bytes) → Tells (StandsIn u) (self.old, linked.old) (self.new, linked.new) (link_mentions (kind_or (option_map (λ kind. kind.now) kind.entry)) u (said_link link.now)) (option_map (λ name. name.now) r)) }
     {
@@ -111,8 +111,8 @@ impl<'a> Seen<'a> {
     fn all_links(
         &mut self,
         linked: &mut NameSet<'a>,
-        kind: Option<&Kind>,
-        links: &'a [Link],
+        kind: Option<&IndexedKind>,
+        links: &'a [PortLink],
     ) -> Result<Option<&'a str>, Memory>
         ensures { IfOk result (λ r. (u : Bytes) → Tells (StandsIn u) (self.old, linked.old) (self.new, linked.new) (flat_map (link_mentions (kind_or (option_map (λ kind. kind.now) kind.entry)) u) (map said_link links.now)) (option_map (λ name. name.now) r)) }
     {
@@ -247,7 +247,7 @@ pub fn twice_name<'a>(
     twice_among(alloc, kinds, &mut modules, text)
 }
 
-// Puts what the top declares besides behind other names: `clk`, `rst` and its instances.
+// Appends what the top declares besides to other names: `clk`, `rst` and its instances.
 fn push_top<'a>(names: &mut Vec<&'a str>, items: &'a [Item]) -> Result<(), Memory>
     ensures { OnOk result (texts names.new.items ≡ texts names.old.items ++ clk ∷ rst ∷ instances_named (map said_item items.now)) }
 {

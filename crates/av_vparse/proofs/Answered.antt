@@ -6,8 +6,8 @@ use Rattle.av_base.specs.Tokens.{start}
 use Rattle.av_net.specs.Lexemes.{Token, design_texts}
 use Rattle.av_net.specs.Grammar.{Text}
 use Rattle.av_net.specs.Designs.{Says, first_line}
-use Rattle.av_vparse.specs.declared.fault.ParseFault.{ParseFault}
-use Rattle.av_vparse.specs.declared.fault.ParseFault.TheVariants.{Byte, Syntax, Memory}
+use Rattle.av_vparse.specs.declared.fault.TextFault.{TextFault}
+use Rattle.av_vparse.specs.declared.fault.TextFault.TheVariants.{Byte, Syntax, Memory}
 use Rattle.av_vparse.specs.declared.parsed.Parsed.{Parsed}
 use Rattle.av_vparse.specs.Said.{said}
 use Rattle.av_vparse.specs.Beginnings.{BreaksOff}
@@ -24,10 +24,10 @@ use Rattle.av_vparse.proofs.BeginningTexts.{stops_there, one_stop, stops_say_non
 ok_read : (a b : Text × ℕ) → ◌≡◌ {A = Wanted} (Ok a) (Ok b) → a ≡ b
 ok_read a b e = cc
 
-err_fault : (f g : ParseFault) → ◌≡◌ {A = Wanted} (Err f) (Err g) → f ≡ g
+err_fault : (f g : TextFault) → ◌≡◌ {A = Wanted} (Err f) (Err g) → f ≡ g
 err_fault f g e = cc
 
-ok_or_err : {read : Text × ℕ} {f : ParseFault} → ◌≡◌ {A = Wanted} (Ok read) (Err f) → ⊥
+ok_or_err : {read : Text × ℕ} {f : TextFault} → ◌≡◌ {A = Wanted} (Ok read) (Err f) → ⊥
 ok_or_err e = cc
 
 module _ (bytes : List ℕ) where
@@ -67,7 +67,7 @@ module _ (bytes : List ℕ) where
       record { tokens = tokens; lexed = spelled; stops = stops_there tokens p (lexed_ends spelled) g }
 
   -- a fault that is answered is that of the bytes
-  pub is_fault : (f : ParseFault) → read_of bytes ≡ Err f → IsFault bytes f
+  pub is_fault : (f : TextFault) → read_of bytes ≡ Err f → IsFault bytes f
   is_fault f c = go lexed refl c
     where
       by : (tokens : List Token) → lexed ≡ Ok tokens → (r : Result Text Place) → text_at tokens ≡ r → by_text (first_line tokens) r ≡ Err f → IsFault bytes f
@@ -89,30 +89,30 @@ module _ (bytes : List ℕ) where
       go (Err q) e = e ∙ ap (λ z. Err z) (one_stop s.tokens q p (stops_there s.tokens q (lexed_ends s.lexed) e) s.stops)
 
   -- the fault of the bytes is answered
-  pub is_refused : (f : ParseFault) → IsFault bytes f → read_of bytes ≡ Err f
+  pub is_refused : (f : TextFault) → IsFault bytes f → read_of bytes ≡ Err f
   is_refused (Byte p) h = ap by_tokens (fault_complete design_texts scanner finds h (length bytes) (omega arith))
   is_refused (Syntax p) h = break_answer p h
   is_refused Memory h = absurd h
 
   -- ---- the answer of the parser
 
-  pub answered_found : (r : Result Parsed ParseFault) → Answers r (read_of bytes) → IfOk r (λ parsed. Says bytes (said parsed.text) parsed.line)
+  pub answered_found : (r : Result Parsed TextFault) → Answers r (read_of bytes) → IfOk r (λ parsed. Says bytes (said parsed.text) parsed.line)
   answered_found (Ok parsed) a = is_said (said parsed.text, parsed.line) a
   answered_found (Err f) a = tt
 
-  of_fault : (f : ParseFault) → FaultIs f (read_of bytes) → (f ≡ Memory) ⊎ IsFault bytes f
+  of_fault : (f : TextFault) → FaultIs f (read_of bytes) → (f ≡ Memory) ⊎ IsFault bytes f
   of_fault Memory c = inl refl
   of_fault (Byte p) c = inr (is_fault (Byte p) c)
   of_fault (Syntax p) c = inr (is_fault (Syntax p) c)
 
-  pub answered_fault : (r : Result Parsed ParseFault) → Answers r (read_of bytes) → (f : ParseFault) → r ≡ Err f → (f ≡ Memory) ⊎ IsFault bytes f
+  pub answered_fault : (r : Result Parsed TextFault) → Answers r (read_of bytes) → (f : TextFault) → r ≡ Err f → (f ≡ Memory) ⊎ IsFault bytes f
   answered_fault (Ok parsed) a f e = absurd (no_err parsed f e)
     where
-      no_err : (parsed : Parsed) (f : ParseFault) → ◌≡◌ {A = Result Parsed ParseFault} (Ok parsed) (Err f) → ⊥
+      no_err : (parsed : Parsed) (f : TextFault) → ◌≡◌ {A = Result Parsed TextFault} (Ok parsed) (Err f) → ⊥
       no_err parsed f e = cc
   answered_fault (Err g) a f e = of_fault f (subst (λ z. FaultIs z (read_of bytes)) (err_is g f e) a)
     where
-      err_is : (g f : ParseFault) → ◌≡◌ {A = Result Parsed ParseFault} (Err g) (Err f) → g ≡ f
+      err_is : (g f : TextFault) → ◌≡◌ {A = Result Parsed TextFault} (Err g) (Err f) → g ≡ f
       err_is g f e = cc
 
 -- ---- laws
@@ -122,15 +122,15 @@ one_said bytes x y m n s t =
     let same : (x, m) ≡ (y, n) = ok_read (x, m) (y, n) (sym (is_read bytes x m s) ∙ is_read bytes y n t) in
     (ap (λ z. z.0) same, ap (λ z. z.1) same)
 
-pub said_or_faulty : (bytes : List ℕ) → ((x : Text) × (line : ℕ) × Says bytes x line) ⊎ ((f : ParseFault) × IsFault bytes f)
+pub said_or_faulty : (bytes : List ℕ) → ((x : Text) × (line : ℕ) × Says bytes x line) ⊎ ((f : TextFault) × IsFault bytes f)
 said_or_faulty bytes = go (read_of bytes) refl
   where
-    go : (r : Wanted) → read_of bytes ≡ r → ((x : Text) × (line : ℕ) × Says bytes x line) ⊎ ((f : ParseFault) × IsFault bytes f)
+    go : (r : Wanted) → read_of bytes ≡ r → ((x : Text) × (line : ℕ) × Says bytes x line) ⊎ ((f : TextFault) × IsFault bytes f)
     go (Ok read) e = inl (read.0, read.1, is_said bytes read e)
     go (Err f) e = inr (f, is_fault bytes f e)
 
-pub said_apart : (bytes : List ℕ) (x : Text) (line : ℕ) (f : ParseFault) → Says bytes x line → IsFault bytes f → ⊥
+pub said_apart : (bytes : List ℕ) (x : Text) (line : ℕ) (f : TextFault) → Says bytes x line → IsFault bytes f → ⊥
 said_apart bytes x line f s h = ok_or_err (sym (is_read bytes x line s) ∙ is_refused bytes f h)
 
-pub one_fault : (bytes : List ℕ) (f g : ParseFault) → IsFault bytes f → IsFault bytes g → f ≡ g
+pub one_fault : (bytes : List ℕ) (f g : TextFault) → IsFault bytes f → IsFault bytes g → f ≡ g
 one_fault bytes f g h k = err_fault f g (sym (is_refused bytes f h) ∙ is_refused bytes g k)

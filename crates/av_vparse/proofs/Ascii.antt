@@ -5,10 +5,10 @@ use Rattle.std.specs.Str.{IsAscii}
 use Rattle.std.proofs.lemmas.List.Elements.{All-weaker, All-cons}
 use Rattle.std.proofs.lemmas.Str.{IsAscii-append}
 use Rattle.std.proofs.lemmas.Str.Ascii.{IsAscii-from_all}
-use Rattle.av_base.specs.declared.piece.Piece.TheVariants as piece
+use Rattle.av_base.specs.declared.lexeme.Lexeme.TheVariants as piece
 use Rattle.av_base.specs.Tokens.{is_word_byte}
-use Rattle.av_net.specs.declared.token_kind.TokenKind.{TokenKind}
-use Rattle.av_net.specs.declared.token_kind.TokenKind.TheVariants as kind
+use Rattle.av_net.specs.declared.token_kind.DesignTokenKind.{DesignTokenKind}
+use Rattle.av_net.specs.declared.token_kind.DesignTokenKind.TheVariants as kind
 use Rattle.av_net.specs.Lexemes.{symbols, begins_name, IsIdentifier, IsSpelled, design_texts}
 use Rattle.av_vparse.specs.inner.Lexing.{scanner}
 use Rattle.av_vparse.specs.inner.Scan.{piece_of}
@@ -25,7 +25,7 @@ identifier_ascii [] w = absurd w
 identifier_ascii (b ∷ bytes) w =
     IsAscii-from_all (b ∷ bytes) (All-cons (λ x. x < 128) b bytes (first_below b w.0) (All-weaker (λ x. IsTrue (is_word_byte x)) (λ x. x < 128) word_byte_below bytes w.1))
 
-spelled_ascii : (k : TokenKind) (text : List ℕ) → IsSpelled k text → IsAscii text
+spelled_ascii : (k : DesignTokenKind) (text : List ℕ) → IsSpelled k text → IsAscii text
 spelled_ascii kind.Name text s = identifier_ascii text s.0
 spelled_ascii kind.Reserved text s = identifier_ascii text (reserved_word text s)
 spelled_ascii kind.System text s = subst IsAscii (sym s) (low (codes "$signed") refl)
@@ -36,5 +36,5 @@ spelled_ascii kind.Symbol text s = low text (tells is_low symbols refl text s)
 spelled_ascii kind.End text s = absurd s
 
 -- the token at an index is ASCII
-pub token_ascii : (bytes : List ℕ) (at : ℕ) (k : TokenKind) (n : ℕ) → at < length bytes → piece.Token k n ≡ piece_of (get_or bytes at 0) (drop at bytes) → IsAscii (take n (drop at bytes))
+pub token_ascii : (bytes : List ℕ) (at : ℕ) (k : DesignTokenKind) (n : ℕ) → at < length bytes → piece.Token k n ≡ piece_of (get_or bytes at 0) (drop at bytes) → IsAscii (take n (drop at bytes))
 token_ascii bytes at k n lt e = spelled_ascii k (take n (drop at bytes)) (token_spelled design_texts scanner finds bytes at k n lt e)

@@ -3,7 +3,7 @@ use Rattle.std.proofs.Common.{◌≡◌, Bool, true, false, List, [], ◌∷◌,
 use Rattle.std.specs.Prelude.{codes}
 use Rattle.av_net.specs.declared.netlist.Port.{Port}
 use Rattle.av_net.specs.Lexemes.{Token}
-use Rattle.av_net.specs.Grammar.{ModuleText, Declaration, wire, Link, Item, instance, IsPort, IsOperand, AreMany, IsLink, IsNextLink, IsItem, instantiation, IsDeclaration, IsKindInput, IsKindDeclaration, kind_wire, IsKindItem}
+use Rattle.av_net.specs.Grammar.{ModuleText, SignalDeclaration, wire, PortLink, Item, instance, IsPort, IsOperand, AreMany, IsLink, IsNextLink, IsItem, instantiation, IsDeclaration, IsKindInput, IsKindDeclaration, kind_wire, IsKindItem}
 use Rattle.av_vparse.specs.inner.Reading.{is_at, directed_at, begins_declaration, declaration_at, link_at, next_link_at, links_at, step_at, assigned_at, instance_at, begins_item, item_at, all_at, declarations_at, items_at, assignments_at, Header, with_body, kind_input_at, kind_inputs_at, more_outputs_at, kind_outputs_at, kind_header_at, kind_wire_at, kind_wires_at, kind_at}
 use Rattle.av_vparse.proofs.Sound.{any_item, Links, Outputs, HasKindHeader}
 use Rattle.av_vparse.proofs.Complete.{comma_first, next_link_begins, declaration_begins, item_begins, assigned_begins, kind_input_begins, kind_wire_begins}
@@ -14,7 +14,7 @@ use Rattle.av_vparse.proofs.BeginningLists.{many_read}
 
 -- ---- instances
 
-abbrev LinkIs : List Token → List Token → Link → Type 0
+abbrev LinkIs : List Token → List Token → PortLink → Type 0
 LinkIs = Follows (Word (codes ".")) (λ a. Follows Name (λ port. Follows (Word (codes "(")) (λ b. Follows IsOperand (λ o. Mapped (Word (codes ")")) (λ c. record { port = port; operand = o })))))
 
 link_reads : Reads true pair IsLink link_at
@@ -26,7 +26,7 @@ link_reads = reads_as within whole
         then_reads _ (word_reads (codes ".") refl) (λ a. then_reads _ name_reads (λ port. then_reads _ (word_reads (codes "(") refl) (λ b. then_reads _ operand_reads
         (λ o. map_reads _ (λ c. record { port = port; operand = o }) (λ c k. refl) (word_reads (codes ")") refl)))))
 
-    within : (ts rest : List Token) (x : Link) → LinkIs ts rest x → IsLink ts rest x
+    within : (ts rest : List Token) (x : PortLink) → LinkIs ts rest x → IsLink ts rest x
     within ts rest x (follows {mid = a} w (follows {mid = b} n (follows {mid = c} v (follows {mid = d} o m)))) =
         unmap (IsLink ts rest) m (λ y s. record { a = a; b = b; c = c; d = d; dot = w; port = n; opens = v; operand = o; closes = s })
 
@@ -34,7 +34,7 @@ next_link_reads : Reads true pair IsNextLink next_link_at
 unfolding next_link_at
 next_link_reads = reads_as within (then_reads _ (word_reads (codes ",") refl) (λ a. link_reads))
   where
-    within : (ts rest : List Token) (x : Link) → Follows (Word (codes ",")) (λ a. IsLink) ts rest x → IsNextLink ts rest x
+    within : (ts rest : List Token) (x : PortLink) → Follows (Word (codes ",")) (λ a. IsLink) ts rest x → IsNextLink ts rest x
     within ts rest x (follows {mid = a} w l) = record { a = a; comma = w; linked = l }
 
 links_reads : Reads false pair Links links_at
@@ -43,7 +43,7 @@ links_reads = reads_as within (then_reads _ link_reads (λ first. map_reads _ (�
     next_links : Reads false pair (AreMany IsNextLink) (all_at (is_at (codes ",")) next_link_at)
     next_links = many_read IsNextLink (is_at (codes ",")) next_link_at refl (alike_word (codes ",")) next_link_reads next_link_begins (λ ts rest x l. next_link_end l)
 
-    within : (ts rest : List Token) (xs : List Link) → Follows IsLink (λ first. Mapped (AreMany IsNextLink) (λ later. first ∷ later)) ts rest xs → Links ts rest xs
+    within : (ts rest : List Token) (xs : List PortLink) → Follows IsLink (λ first. Mapped (AreMany IsNextLink) (λ later. first ∷ later)) ts rest xs → Links ts rest xs
     within ts rest xs (follows {mid = a} {x = first} l m) = unmap (Links ts rest) m (λ later are. record { a = a; first = first; later = later; links_first = l; links_later = are; are = refl })
 
 abbrev InstanceIs : List Token → List Token → Item → Type 0
@@ -139,7 +139,7 @@ kind_wire_reads : Reads true pair IsKindDeclaration kind_wire_at
 unfolding kind_wire_at
 kind_wire_reads = reads_as within (then_reads _ (word_reads (codes "wire") refl) (λ a. map_reads _ wire (λ x k. refl) declared_reads))
   where
-    within : (ts rest : List Token) (x : Declaration) → Follows (Word (codes "wire")) (λ a. Mapped Declared wire) ts rest x → IsKindDeclaration ts rest x
+    within : (ts rest : List Token) (x : SignalDeclaration) → Follows (Word (codes "wire")) (λ a. Mapped Declared wire) ts rest x → IsKindDeclaration ts rest x
     within ts rest x (follows {mid = a} w m) = unmap (IsKindDeclaration ts rest) m (λ port d. declared_in (λ p. IsKindDeclaration ts rest (wire p)) (codes "wire") ts a rest port w d (λ q b p s. kind_wire p s))
 
 kind_wires_read : Reads false pair (AreMany IsKindDeclaration) kind_wires_at

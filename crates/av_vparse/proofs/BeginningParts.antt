@@ -4,7 +4,7 @@ use Rattle.std.specs.Prelude.{◌&&◌, is_some, codes}
 use Rattle.std.specs.Str.{bytes_eq}
 use Rattle.av_base.specs.Tokens.{number_of, start}
 use Rattle.av_base.specs.declared.width.Width.{Width}
-use Rattle.av_net.specs.declared.token_kind.TokenKind.TheVariants as kind
+use Rattle.av_net.specs.declared.token_kind.DesignTokenKind.TheVariants as kind
 use Rattle.av_net.specs.declared.operation.Symbol.{Symbol}
 use Rattle.av_net.specs.declared.operation.Symbol.TheVariants as symbol
 use Rattle.av_net.specs.declared.operation.Operand.{Operand}
@@ -15,7 +15,7 @@ use Rattle.av_net.specs.declared.netlist.Port.{Port}
 use Rattle.av_net.specs.Names.{clk, rst}
 use Rattle.av_net.specs.Sound.{IsOrder}
 use Rattle.av_net.specs.Lexemes.{Token}
-use Rattle.av_net.specs.Grammar.{Declaration, wire, register, Item, drive, widening, step as step_item, AreWords, no_word, next_word, IsWordAt, IsNameAt, name, IsNumberAt, number, IsLiteralAt, IsRange, no_range, range, IsPort, IsDeclaration, wire_declaration, register_declaration, IsOperand, named, constant, spelling, IsSigned, IsOperation, plain, binary, signed, choice, selection, IsEdge, IsItem, at_an_edge, IsKindItem, kind_assignment, kind_wide_assignment}
+use Rattle.av_net.specs.Grammar.{SignalDeclaration, wire, register, Item, drive, widening, step as step_item, AreWords, no_word, next_word, IsWordAt, IsNameAt, name, IsNumberAt, number, IsLiteralAt, IsRange, no_range, range, IsPort, IsDeclaration, wire_declaration, register_declaration, IsOperand, named, constant, spelling, IsSigned, IsOperation, plain, binary, signed, choice, selection, IsEdge, IsItem, at_an_edge, IsKindItem, kind_assignment, kind_wide_assignment}
 use Rattle.av_vparse.specs.inner.Reading.{◌>>=◌, Read, same, after, is_word, is_at, word_at, words_at, name_at, this_name_at, is_between, number_at, Sized, is_literal, sized_in, literal_by, literal_at, width_for, range_at, port_at, directed_at, declared_at, declaration_at, begins_literal, operand_at, order_of, symbol_at, order_by, order_at, signed_at, comparison_at, choice_at, selection_at, selected_bit_at, widening_at, alone_by, binary_by, operation_by, operation_at, given_at, assigned_at, edge_at, reset_at, step_at}
 use Rattle.av_vparse.proofs.Steps.{word_took, name_took, this_name_took, number_took, literal_took, at_word}
 use Rattle.av_vparse.proofs.Sound.{width_bits, symbol_took, order_took, Selected, part_is, Widened, name_of, Reset}
@@ -231,19 +231,19 @@ pub declared_in : (Wanted : Port → Type 0) (word : List ℕ) (ts a rest : List
     → ((port : Port) (b : List Token) → IsPort (word ∷ []) ts b port → IsWordAt (codes ";") b rest → Wanted port) → Wanted port
 declared_in Wanted word ts a rest port w (follows {mid = d} {x = inner} p m) make = unmap Wanted m (λ x s. make inner d (as_port (word ∷ []) ts d inner (follows w p)) s)
 
-declared_is : (word : List ℕ) (made : Port → Declaration) (ts a rest : List Token) (port : Port)
+declared_is : (word : List ℕ) (made : Port → SignalDeclaration) (ts a rest : List Token) (port : Port)
     → ((b : List Token) (port : Port) → IsPort (word ∷ []) ts b port → IsWordAt (codes ";") b rest → IsDeclaration ts rest (made port)) → IsWordAt word ts a → Declared a rest port → IsDeclaration ts rest (made port)
 declared_is word made ts a rest port make w (follows {mid = d} {x = inner} p m) =
     unmap (λ q. IsDeclaration ts rest (made q)) m (λ x s. make d inner (as_port (word ∷ []) ts d inner (follows w p)) s)
 
-as_register : (ts rest : List Token) (x : Declaration) → Follows (Word (codes "reg")) (λ x. Mapped Declared register) ts rest x → IsDeclaration ts rest x
+as_register : (ts rest : List Token) (x : SignalDeclaration) → Follows (Word (codes "reg")) (λ x. Mapped Declared register) ts rest x → IsDeclaration ts rest x
 as_register ts rest x (follows {mid = a} w m) = unmap (IsDeclaration ts rest) m (λ port d. declared_is (codes "reg") register ts a rest port (λ b q p s. register_declaration p s) w d)
 
 pub declaration_reads : Reads true pair IsDeclaration declaration_at
 unfolding declaration_at
 declaration_reads = record { judged = judge; some = (reads_as as_register register_reads).some }
   where
-    within : (t : Token) → is_word (codes "wire") t ≡ true → (ts rest : List Token) (x : Declaration) → Mapped Declared wire ts rest x → IsDeclaration (t ∷ ts) rest x
+    within : (t : Token) → is_word (codes "wire") t ≡ true → (ts rest : List Token) (x : SignalDeclaration) → Mapped Declared wire ts rest x → IsDeclaration (t ∷ ts) rest x
     within t h ts rest x m = unmap (IsDeclaration (t ∷ ts) rest) m (λ port d. declared_is (codes "wire") wire (t ∷ ts) ts rest port (λ b q p s. wire_declaration p s) (at_word (codes "wire") (t ∷ ts) h) d)
 
     judge : (ts : List Token) → Ends ts → Verdict true pair IsDeclaration declaration_at ts

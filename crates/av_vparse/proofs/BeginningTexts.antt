@@ -7,11 +7,11 @@ use Rattle.std.proofs.lemmas.Slice.Eq.{bytes_eq-Decides}
 use Rattle.av_base.specs.declared.place.Place.{Place}
 use Rattle.av_base.specs.declared.width.Width.{Width}
 use Rattle.av_base.specs.Tokens.{start}
-use Rattle.av_net.specs.declared.token_kind.TokenKind.TheVariants as kind
+use Rattle.av_net.specs.declared.token_kind.DesignTokenKind.TheVariants as kind
 use Rattle.av_net.specs.declared.netlist.Port.{Port}
 use Rattle.av_net.specs.Names.{clk, rst}
 use Rattle.av_net.specs.Lexemes.{Token, IsSpelled, AreTokens, end as end_of_bytes, blank, comment, token}
-use Rattle.av_net.specs.Grammar.{Text, ModuleText, Declaration, Item, AreWords, no_word, next_word, IsWordAt, IsNameAt, name, IsEnd, end, IsRange, no_range, range, IsPort, IsDeclaration, IsItem, AreMany, no_more, one_more, IsKindInput, IsKindDeclaration, IsKindItem, IsClockFirst, IsKind, IsClocked, IsTop, IsText}
+use Rattle.av_net.specs.Grammar.{Text, ModuleText, SignalDeclaration, Item, AreWords, no_word, next_word, IsWordAt, IsNameAt, name, IsEnd, end, IsRange, no_range, range, IsPort, IsDeclaration, IsItem, AreMany, no_more, one_more, IsKindInput, IsKindDeclaration, IsKindItem, IsClockFirst, IsKind, IsClocked, IsTop, IsText}
 use Rattle.av_vparse.specs.Beginnings.{Begins, StopsAt}
 use Rattle.av_vparse.specs.inner.Reading.{same, is_word, end_at, width_for, Header, clocked_at, header_at, with_body, top_at, is_name, begins_top, begins_kind, kind_at, kinds_at, text_at}
 use Rattle.av_vparse.proofs.Steps.{same_is, at_word, word_there, other_there, end_gives}
@@ -360,7 +360,7 @@ kind_from {ts = ts} {rest = rest} {x = x} s none =
 shape_long : {ts rest : List Token} {x : ModuleText} → KindShape ts rest x → length rest + 5 ≤ length ts
 shape_long s = let h = header_long s.headed in let m = middle s.declarations s.items s.stops in omega arith
   where
-    middle : {g h i rest : List Token} {ds : List Declaration} {items : List Item} → AreMany IsKindDeclaration g h ds → AreMany IsKindItem h i items → IsWordAt (codes "endmodule") i rest → length rest ≤ length g
+    middle : {g h i rest : List Token} {ds : List SignalDeclaration} {items : List Item} → AreMany IsKindDeclaration g h ds → AreMany IsKindItem h i items → IsWordAt (codes "endmodule") i rest → length rest ≤ length g
     middle d i s = omega (arith, many_end IsKindDeclaration (λ ts rest x d. kind_declaration_end d) d, many_end IsKindItem (λ ts rest x i. kind_item_end i) i, words_end s)
 
     header_long : {ts rest : List Token} {x : Header} → HasKindHeader ts rest x → length rest + 5 ≤ length ts

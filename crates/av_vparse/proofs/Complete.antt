@@ -7,8 +7,8 @@ use Rattle.av_base.specs.Tokens.{IsDigits}
 use Rattle.av_base.specs.declared.width.Width.{Width}
 use Rattle.std.specs.Prelude.{nat_eq}
 use Rattle.std.proofs.lemmas.List.{append-nil}
-use Rattle.av_net.specs.declared.token_kind.TokenKind.{TokenKind}
-use Rattle.av_net.specs.declared.token_kind.TokenKind.TheVariants as kind
+use Rattle.av_net.specs.declared.token_kind.DesignTokenKind.{DesignTokenKind}
+use Rattle.av_net.specs.declared.token_kind.DesignTokenKind.TheVariants as kind
 use Rattle.av_net.specs.declared.operation.Symbol.{Symbol}
 use Rattle.av_net.specs.declared.operation.Symbol.TheVariants as symbol
 use Rattle.av_net.specs.declared.operation.Operand.{Operand}
@@ -20,7 +20,7 @@ use Rattle.av_net.specs.declared.netlist.Step.{Step}
 use Rattle.av_net.specs.Sound.{IsOrder}
 use Rattle.av_net.specs.Lexemes.{Token}
 use Rattle.av_net.specs.Names.{clk}
-use Rattle.av_net.specs.Grammar.{Text, ModuleText, Declaration, Link, Instantiation, Item, step as step_item, instance, AreWords, no_word, next_word, IsWordAt, IsNameAt, name, IsLiteralAt, literal, IsRange, no_range, range, IsPort, IsDeclaration, wire_declaration, register_declaration, IsPart, IsWidening, IsOperand, named, constant, spelling, IsSigned, IsOperation, plain, binary, signed, choice, selection, IsEdge, IsStep, AreMany, no_more, one_more, IsLink, IsNextLink, IsInstantiation, IsItem, assignment, wide_assignment, at_an_edge, instantiation, IsKindInput, IsKindDeclaration, kind_wire, IsKindItem, kind_assignment, kind_wide_assignment, IsClockFirst, IsKind, IsClocked, IsTop, IsText}
+use Rattle.av_net.specs.Grammar.{Text, ModuleText, SignalDeclaration, PortLink, Instantiation, Item, step as step_item, instance, AreWords, no_word, next_word, IsWordAt, IsNameAt, name, IsLiteralAt, literal, IsRange, no_range, range, IsPort, IsDeclaration, wire_declaration, register_declaration, IsPart, IsWidening, IsOperand, named, constant, spelling, IsSigned, IsOperation, plain, binary, signed, choice, selection, IsEdge, IsStep, AreMany, no_more, one_more, IsLink, IsNextLink, IsInstantiation, IsItem, assignment, wide_assignment, at_an_edge, instantiation, IsKindInput, IsKindDeclaration, kind_wire, IsKindItem, kind_assignment, kind_wide_assignment, IsClockFirst, IsKind, IsClocked, IsTop, IsText}
 use Rattle.av_vparse.specs.inner.Reading.{Read, same, is_word, is_at, are_at, begins_literal, begins_name, range_at, port_at, directed_at, declared_at, begins_declaration, declaration_at, operand_at, order_of, symbol_of, symbol_at, order_by, order_at, signed_at, comparison_at, choice_at, selection_at, selected_bit_at, widening_at, alone_by, binary_by, operation_by, operation_at, given_at, assigned_at, edge_at, reset_at, step_at, link_at, next_link_at, instance_at, begins_item, item_at, many_at, all_at, ports_at, closed_at, clocked_at, header_at, top_at, is_name, begins_top, begins_kind, kind_input_at, kind_outputs_at, kind_header_at, kind_wire_at, kind_at, text_at}
 use Rattle.av_vparse.proofs.Steps.{same_is, text_is, other_kind, same_self, kind_other, not_name, is_text, word_gives, words_give, word_there, other_there, name_gives, this_name_gives, number_gives, literal_gives, end_gives}
 use Rattle.av_vparse.proofs.BitsOf.{is_width_of}
@@ -57,7 +57,7 @@ declared_gives : {word : List ℕ} {ts a rest : List Token} {port : Port} (p : I
 unfolding declared_at
 declared_gives p s = rw (port_gives p, word_gives s) refl
 
-declaration_gives : (ts rest : List Token) (x : Declaration) → IsDeclaration ts rest x → declaration_at ts ≡ Ok (x, rest)
+declaration_gives : (ts rest : List Token) (x : SignalDeclaration) → IsDeclaration ts rest x → declaration_at ts ≡ Ok (x, rest)
 unfolding declaration_at
 declaration_gives ts rest x (wire_declaration p s) =
     let w = word_there p.words_first in
@@ -65,7 +65,7 @@ declaration_gives ts rest x (wire_declaration p s) =
 declaration_gives ts rest x (register_declaration p s) =
     rw (other_there p.words_first (codes "wire") refl, word_gives p.words_first, declared_gives p s) refl
 
-pub declaration_begins : (ts rest : List Token) (x : Declaration) → IsDeclaration ts rest x → begins_declaration ts ≡ true
+pub declaration_begins : (ts rest : List Token) (x : SignalDeclaration) → IsDeclaration ts rest x → begins_declaration ts ≡ true
 declaration_begins ts rest x (wire_declaration p s) = rw ((word_there p.words_first).0) refl
 declaration_begins ts rest x (register_declaration p s) = rw (other_there p.words_first (codes "wire") refl, (word_there p.words_first).0) refl
 
@@ -95,14 +95,14 @@ operand_there (named n) = name_there n (codes "$signed")
 operand_there (constant (literal {t = t} k l)) =
     rw (kind_literal t.kind k, l.sized.spelled) (no_sign l.sized.size l.sized.digits l.sized.sized)
   where
-    kind_literal : (k : TokenKind) → k ≡ kind.Literal → not (same k kind.Name) ≡ true
+    kind_literal : (k : DesignTokenKind) → k ≡ kind.Literal → not (same k kind.Name) ≡ true
     kind_literal k e = rw e refl
 
 no_operand_brace : {ts rest : List Token} {x : Operand} → IsOperand ts rest x → is_at (codes "{") ts ≡ false
 no_operand_brace (named n) = name_there n (codes "{")
 no_operand_brace (constant (literal {t = t} k l)) = rw (kind_literal t.kind k, l.sized.spelled) (no_digit l.sized.size l.sized.digits l.sized.sized)
   where
-    kind_literal : (k : TokenKind) → k ≡ kind.Literal → not (same k kind.Name) ≡ true
+    kind_literal : (k : DesignTokenKind) → k ≡ kind.Literal → not (same k kind.Name) ≡ true
     kind_literal k e = rw e refl
 
     not_brace : (b : ℕ) → is_ascii_digit b ≡ true → nat_eq b 123 ≡ false
@@ -285,15 +285,15 @@ no_comma (next_word {t = t} k e words) = rw (kind_other t.kind k, e) refl
 
 -- ---- instances
 
-link_gives : {ts rest : List Token} {x : Link} → IsLink ts rest x → link_at ts ≡ Ok (x, rest)
+link_gives : {ts rest : List Token} {x : PortLink} → IsLink ts rest x → link_at ts ≡ Ok (x, rest)
 unfolding link_at
 link_gives l = rw (word_gives l.dot, name_gives l.port, word_gives l.opens, operand_gives l.operand, word_gives l.closes) refl
 
-next_link_gives : (ts rest : List Token) (x : Link) → IsNextLink ts rest x → next_link_at ts ≡ Ok (x, rest)
+next_link_gives : (ts rest : List Token) (x : PortLink) → IsNextLink ts rest x → next_link_at ts ≡ Ok (x, rest)
 unfolding next_link_at
 next_link_gives ts rest x l = rw (word_gives l.comma) (link_gives l.linked)
 
-pub next_link_begins : (ts rest : List Token) (x : Link) → IsNextLink ts rest x → is_at (codes ",") ts ≡ true
+pub next_link_begins : (ts rest : List Token) (x : PortLink) → IsNextLink ts rest x → is_at (codes ",") ts ≡ true
 next_link_begins ts rest x l = (word_there l.comma).0
 
 instance_gives : {ts rest : List Token} {x : Instantiation} → IsInstantiation ts rest x → instance_at ts ≡ Ok (instance x, rest)
@@ -394,11 +394,11 @@ kind_header_gives k =
     let inputs = all_give IsKindInput (is_at (codes "input")) kind_input_at kind_input_gives kind_input_begins (λ ts rest x p. kind_input_end p) k.inputs (other_there k.output.words_first (codes "input") refl) in
     rw (word_gives k.begins, name_gives k.name, word_gives k.opens, inputs, outputs_give k.output k.more_outputs k.closes, words_give k.closes, sym k.outputs) refl
 
-kind_wire_gives : (ts rest : List Token) (x : Declaration) → IsKindDeclaration ts rest x → kind_wire_at ts ≡ Ok (x, rest)
+kind_wire_gives : (ts rest : List Token) (x : SignalDeclaration) → IsKindDeclaration ts rest x → kind_wire_at ts ≡ Ok (x, rest)
 unfolding kind_wire_at
 kind_wire_gives ts rest x (kind_wire p s) = rw (word_gives p.words_first, declared_gives p s) refl
 
-pub kind_wire_begins : (ts rest : List Token) (x : Declaration) → IsKindDeclaration ts rest x → is_at (codes "wire") ts ≡ true
+pub kind_wire_begins : (ts rest : List Token) (x : SignalDeclaration) → IsKindDeclaration ts rest x → is_at (codes "wire") ts ≡ true
 kind_wire_begins ts rest x (kind_wire p s) = (word_there p.words_first).0
 
 -- after the wires of a kind

@@ -8,7 +8,7 @@ use Rattle.av_net.specs.declared.netlist.Port.{Port}
 use Rattle.av_net.specs.declared.netlist.Drive.{Drive}
 use Rattle.av_net.specs.declared.netlist.Step.{Step}
 use Rattle.av_net.specs.Lexemes.{Token}
-use Rattle.av_net.specs.Grammar.{ModuleText, Declaration, Link, Instantiation, Item, AreWords, no_word, next_word, IsNameAt, name, IsNumberAt, number, IsLiteralAt, literal, IsRange, no_range, range, IsPort, IsDeclaration, wire_declaration, register_declaration, IsPart, IsWidening, IsOperand, named, constant, IsSigned, IsOperation, plain, binary, signed, choice, selection, IsDrive, IsWideningDrive, IsEdge, IsStep, AreMany, no_more, one_more, IsLink, IsNextLink, IsInstantiation, IsItem, assignment, wide_assignment, at_an_edge, instantiation, IsKindInput, IsKindDeclaration, kind_wire, IsKindItem, kind_assignment, kind_wide_assignment, IsKind}
+use Rattle.av_net.specs.Grammar.{ModuleText, SignalDeclaration, PortLink, Instantiation, Item, AreWords, no_word, next_word, IsNameAt, name, IsNumberAt, number, IsLiteralAt, literal, IsRange, no_range, range, IsPort, IsDeclaration, wire_declaration, register_declaration, IsPart, IsWidening, IsOperand, named, constant, IsSigned, IsOperation, plain, binary, signed, choice, selection, IsDrive, IsWideningDrive, IsEdge, IsStep, AreMany, no_more, one_more, IsLink, IsNextLink, IsInstantiation, IsItem, assignment, wide_assignment, at_an_edge, instantiation, IsKindInput, IsKindDeclaration, kind_wire, IsKindItem, kind_assignment, kind_wide_assignment, IsKind}
 
 pub words_end : {texts : List (List ℕ)} {ts rest : List Token} → AreWords texts ts rest → length rest + length texts ≡ length ts
 words_end no_word = omega arith
@@ -30,7 +30,7 @@ range_end (range opens n le closes e) = omega (arith, words_end opens, number_en
 pub port_end : {words : List (List ℕ)} {ts rest : List Token} {port : Port} → IsPort words ts rest port → length rest < length ts
 port_end p = omega (arith, words_end p.words_first, range_end p.range, name_end p.name)
 
-pub declaration_end : {ts rest : List Token} {x : Declaration} → IsDeclaration ts rest x → length rest < length ts
+pub declaration_end : {ts rest : List Token} {x : SignalDeclaration} → IsDeclaration ts rest x → length rest < length ts
 declaration_end (wire_declaration p s) = omega (arith, port_end p, words_end s)
 declaration_end (register_declaration p s) = omega (arith, port_end p, words_end s)
 
@@ -73,10 +73,10 @@ pub many_end : {A : Type 0} (Is : List Token → List Token → A → Type 0) �
 many_end Is shorter (no_more) = omega arith
 many_end Is shorter (one_more {ts = ts} {a = a} {x = x} is many) = omega (arith, shorter ts a x is, many_end Is shorter many)
 
-link_end : {ts rest : List Token} {link : Link} → IsLink ts rest link → length rest < length ts
+link_end : {ts rest : List Token} {link : PortLink} → IsLink ts rest link → length rest < length ts
 link_end l = omega (arith, words_end l.dot, name_end l.port, words_end l.opens, operand_end l.operand, words_end l.closes)
 
-pub next_link_end : {ts rest : List Token} {link : Link} → IsNextLink ts rest link → length rest < length ts
+pub next_link_end : {ts rest : List Token} {link : PortLink} → IsNextLink ts rest link → length rest < length ts
 next_link_end l = omega (arith, words_end l.comma, link_end l.linked)
 
 instance_end : {ts rest : List Token} {x : Instantiation} → IsInstantiation ts rest x → length rest < length ts
@@ -97,7 +97,7 @@ kind_item_end (kind_wide_assignment d) = wide_drive_end d
 pub kind_input_end : {ts rest : List Token} {port : Port} → IsKindInput ts rest port → length rest < length ts
 kind_input_end p = omega (arith, port_end p.directed, words_end p.comma)
 
-pub kind_declaration_end : {ts rest : List Token} {x : Declaration} → IsKindDeclaration ts rest x → length rest < length ts
+pub kind_declaration_end : {ts rest : List Token} {x : SignalDeclaration} → IsKindDeclaration ts rest x → length rest < length ts
 kind_declaration_end (kind_wire p s) = omega (arith, port_end p, words_end s)
 
 pub kind_end : {ts rest : List Token} {x : ModuleText} → IsKind ts rest x → length rest < length ts

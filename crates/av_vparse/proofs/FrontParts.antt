@@ -12,7 +12,7 @@ use Rattle.av_net.specs.declared.netlist.Drive.{Drive}
 use Rattle.av_net.specs.declared.netlist.Step.{Step}
 use Rattle.av_net.specs.Names.{clk, rst}
 use Rattle.av_net.specs.Lexemes.{Token}
-use Rattle.av_net.specs.Grammar.{Declaration, wire, register, Link, Instantiation, Item, drive, widening, step, instance, AreWords, no_word, next_word, IsNameAt, name, IsNumberAt, number, IsLiteralAt, literal, IsRange, no_range, range, IsPort, IsDeclaration, wire_declaration, register_declaration, IsOperand, named, constant, IsSigned, IsPart, IsOperation, plain, binary, signed, choice, selection, IsDrive, IsWideningDrive, IsStep, AreMany, IsLink, IsNextLink, IsInstantiation, IsItem, assignment, wide_assignment, at_an_edge, instantiation, IsKindDeclaration, kind_wire}
+use Rattle.av_net.specs.Grammar.{SignalDeclaration, wire, register, PortLink, Instantiation, Item, drive, widening, step, instance, AreWords, no_word, next_word, IsNameAt, name, IsNumberAt, number, IsLiteralAt, literal, IsRange, no_range, range, IsPort, IsDeclaration, wire_declaration, register_declaration, IsOperand, named, constant, IsSigned, IsPart, IsOperation, plain, binary, signed, choice, selection, IsDrive, IsWideningDrive, IsStep, AreMany, IsLink, IsNextLink, IsInstantiation, IsItem, assignment, wide_assignment, at_an_edge, instantiation, IsKindDeclaration, kind_wire}
 use Rattle.av_vparse.specs.inner.Reading.{literal_at, literal_by, sized_in}
 use Rattle.av_vparse.specs.Fronts.{Words, FrontName, IsThisName, Between, IsBetween, Sized, IsSizedAt, FrontLiteral, FrontOne, FrontRange, FrontPort, FrontDeclared, FrontDeclaration, FrontOperand, FrontSigned, FrontPart, FrontBit, IsBit, FrontWidening, IsWide, IsOperator, IsOrderAt, FrontBinary, FrontComparison, FrontChoice, FrontOperation, in_operand, in_binary, in_comparison, in_choice, in_selection, FrontDrive, FrontWideDrive, FrontEdge, Edge, FrontStep, FrontLink, FrontNextLink, FrontInstantiation, FrontItem, in_drive, in_wide_drive, in_step, in_instantiation}
 use Rattle.av_vparse.proofs.Steps.{literal_took}
@@ -129,30 +129,30 @@ port_rules words = part_as to from (behind_rules (words_rules words) (λ x. behi
     from : (ts rest : List Token) (p : Port) → IsPort words ts rest p → PortIs words ts rest p
     from ts rest p i = follows i.words_first (follows i.range (mapped i.name))
 
-abbrev DeclaredIs : List ℕ → (Port → Declaration) → List Token → List Token → Declaration → Type 0
+abbrev DeclaredIs : List ℕ → (Port → SignalDeclaration) → List Token → List Token → SignalDeclaration → Type 0
 DeclaredIs word made = Follows (IsPort (word ∷ [])) (λ port. Mapped (Words (codes ";" ∷ [])) (λ x. made port))
 
-declared_rules : (word : List ℕ) (made : Port → Declaration) → Rules (FrontDeclared word) (DeclaredIs word made)
+declared_rules : (word : List ℕ) (made : Port → SignalDeclaration) → Rules (FrontDeclared word) (DeclaredIs word made)
 declared_rules word made = behind_rules (port_rules (word ∷ [])) (λ port. mapped_rules (λ x. made port) (words_rules (codes ";" ∷ [])))
 
 pub declaration_rules : Rules FrontDeclaration IsDeclaration
 declaration_rules = part_as to from (either_rules (declared_rules (codes "wire") wire) (declared_rules (codes "reg") register))
   where
-    to : (ts rest : List Token) (d : Declaration) → Either (DeclaredIs (codes "wire") wire) (DeclaredIs (codes "reg") register) ts rest d → IsDeclaration ts rest d
+    to : (ts rest : List Token) (d : SignalDeclaration) → Either (DeclaredIs (codes "wire") wire) (DeclaredIs (codes "reg") register) ts rest d → IsDeclaration ts rest d
     to ts rest d (inl (follows {x = port} p m)) = unmap (IsDeclaration ts rest) m (λ x w. wire_declaration p w)
     to ts rest d (inr (follows {x = port} p m)) = unmap (IsDeclaration ts rest) m (λ x w. register_declaration p w)
 
-    from : (ts rest : List Token) (d : Declaration) → IsDeclaration ts rest d → Either (DeclaredIs (codes "wire") wire) (DeclaredIs (codes "reg") register) ts rest d
+    from : (ts rest : List Token) (d : SignalDeclaration) → IsDeclaration ts rest d → Either (DeclaredIs (codes "wire") wire) (DeclaredIs (codes "reg") register) ts rest d
     from ts rest d (wire_declaration p s) = inl (follows p (mapped s))
     from ts rest d (register_declaration p s) = inr (follows p (mapped s))
 
 pub kind_declaration_rules : Rules (FrontDeclared (codes "wire")) IsKindDeclaration
 kind_declaration_rules = part_as to from (declared_rules (codes "wire") wire)
   where
-    to : (ts rest : List Token) (d : Declaration) → DeclaredIs (codes "wire") wire ts rest d → IsKindDeclaration ts rest d
+    to : (ts rest : List Token) (d : SignalDeclaration) → DeclaredIs (codes "wire") wire ts rest d → IsKindDeclaration ts rest d
     to ts rest d (follows {x = port} p m) = unmap (IsKindDeclaration ts rest) m (λ x w. kind_wire p w)
 
-    from : (ts rest : List Token) (d : Declaration) → IsKindDeclaration ts rest d → DeclaredIs (codes "wire") wire ts rest d
+    from : (ts rest : List Token) (d : SignalDeclaration) → IsKindDeclaration ts rest d → DeclaredIs (codes "wire") wire ts rest d
     from ts rest d (kind_wire p s) = follows p (mapped s)
 
 -- ---- operands
@@ -400,7 +400,7 @@ step_rules =
 
 -- ---- instances
 
-abbrev LinkIs : List Token → List Token → Link → Type 0
+abbrev LinkIs : List Token → List Token → PortLink → Type 0
 LinkIs =
     Follows (Words (codes "." ∷ [])) (λ u. Follows IsNameAt (λ port. Follows (Words (codes "(" ∷ [])) (λ v. Follows IsOperand (λ x. Mapped (Words (codes ")" ∷ [])) (λ w. record { port = port; operand = x })))))
 
@@ -410,25 +410,25 @@ link_rules =
     mapped_rules (λ w. record { port = port; operand = x }) (words_rules (codes ")" ∷ []))))))
     )
   where
-    to : (ts rest : List Token) (l : Link) → LinkIs ts rest l → IsLink ts rest l
+    to : (ts rest : List Token) (l : PortLink) → LinkIs ts rest l → IsLink ts rest l
     to ts rest l (follows {mid = a} d (follows {mid = b} p (follows {mid = c} o (follows {mid = e} x m)))) = unmap (IsLink ts rest) m (λ z k. record { a = a; b = b; c = c; d = e; dot = d; port = p; opens = o; operand = x; closes = k })
 
-    from : (ts rest : List Token) (l : Link) → IsLink ts rest l → LinkIs ts rest l
+    from : (ts rest : List Token) (l : PortLink) → IsLink ts rest l → LinkIs ts rest l
     from ts rest l i = follows {x = tt} i.dot (follows i.port (follows {x = tt} i.opens (follows i.operand (mapped i.closes))))
 
-abbrev NextLinkIs : List Token → List Token → Link → Type 0
+abbrev NextLinkIs : List Token → List Token → PortLink → Type 0
 NextLinkIs = Follows (Words (codes "," ∷ [])) (λ u. IsLink)
 
 next_link_rules : Rules FrontNextLink IsNextLink
 next_link_rules = part_as to from (behind_rules (words_rules (codes "," ∷ [])) (λ u. link_rules))
   where
-    to : (ts rest : List Token) (l : Link) → NextLinkIs ts rest l → IsNextLink ts rest l
+    to : (ts rest : List Token) (l : PortLink) → NextLinkIs ts rest l → IsNextLink ts rest l
     to ts rest l (follows {mid = a} c i) = record { a = a; comma = c; linked = i }
 
-    from : (ts rest : List Token) (l : Link) → IsNextLink ts rest l → NextLinkIs ts rest l
+    from : (ts rest : List Token) (l : PortLink) → IsNextLink ts rest l → NextLinkIs ts rest l
     from ts rest l i = follows {x = tt} i.comma i.linked
 
-abbrev instantiated : List ℕ → List ℕ → Link → List Link → Instantiation
+abbrev instantiated : List ℕ → List ℕ → PortLink → List PortLink → Instantiation
 instantiated kind text first later = record { kind = kind; name = text; links = first ∷ later }
 
 abbrev InstantiationIs : List Token → List Token → Instantiation → Type 0

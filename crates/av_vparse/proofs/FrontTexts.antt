@@ -4,11 +4,11 @@ use Rattle.std.specs.Prelude.{codes}
 use Rattle.std.proofs.lemmas.Slice.Eq.{bytes_eq-Decides}
 use Rattle.av_base.specs.Tokens.{start}
 use Rattle.av_base.specs.declared.width.Width.{Width}
-use Rattle.av_net.specs.declared.token_kind.TokenKind.TheVariants as kind
+use Rattle.av_net.specs.declared.token_kind.DesignTokenKind.TheVariants as kind
 use Rattle.av_net.specs.declared.netlist.Port.{Port}
 use Rattle.av_net.specs.Names.{clk, rst}
 use Rattle.av_net.specs.Lexemes.{Token}
-use Rattle.av_net.specs.Grammar.{ModuleText, Declaration, Item, drive, no_word, next_word, IsWordAt, IsNameAt, name, IsEnd, end, IsRange, no_range, range, IsPort, IsDeclaration, IsDrive, IsItem, AreMany, no_more, one_more, IsKindInput, IsKindDeclaration, IsKindItem, kind_assignment, kind_wide_assignment, IsClockFirst, IsKind, IsTop, IsText}
+use Rattle.av_net.specs.Grammar.{ModuleText, SignalDeclaration, Item, drive, no_word, next_word, IsWordAt, IsNameAt, name, IsEnd, end, IsRange, no_range, range, IsPort, IsDeclaration, IsDrive, IsItem, AreMany, no_more, one_more, IsKindInput, IsKindDeclaration, IsKindItem, kind_assignment, kind_wide_assignment, IsClockFirst, IsKind, IsTop, IsText}
 use Rattle.av_vparse.specs.inner.Reading.{is_at, width_for}
 use Rattle.av_vparse.specs.Beginnings.{Begins}
 use Rattle.av_vparse.specs.Fronts.{in_first, in_next, FrontMany, in_part, one_there, no_word_yet, past_word, Words, IsThisName, FrontKindInput, FrontKindItem, FrontKindRest, FrontKindPorts, FrontKind, FrontClocked, Clocked, FrontTop, FrontEnd, no_end_yet, at_end, FrontText}
@@ -52,10 +52,10 @@ record Body : Type 0 where
   pub inputs : List Port
   pub first : Port
   pub later : List Port
-  pub declarations : List Declaration
+  pub declarations : List SignalDeclaration
   pub items : List Item
 
-abbrev body : List Port → Port → List Port → List Declaration → List Item → Body
+abbrev body : List Port → Port → List Port → List SignalDeclaration → List Item → Body
 body inputs first later declarations items = record { inputs = inputs; first = first; later = later; declarations = declarations; items = items }
 
 abbrev IsMoreOutput : List Token → List Token → Port → Type 0
@@ -245,7 +245,7 @@ clocked_rules = part_as to from (behind_rules (words_rules (codes "(" ∷ codes 
 abbrev IsDirected : List ℕ → List Token → List Token → Port → Type 0
 IsDirected direction = IsPort (codes "," ∷ direction ∷ [])
 
-abbrev top_of : List ℕ → List Port → List Port → List Declaration → List Item → ModuleText
+abbrev top_of : List ℕ → List Port → List Port → List SignalDeclaration → List Item → ModuleText
 top_of called inputs outputs declarations items = record { name = called; inputs = inputs; outputs = outputs; declarations = declarations; items = items }
 
 abbrev TopIs : List Token → List Token → ModuleText → Type 0

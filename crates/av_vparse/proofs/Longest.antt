@@ -11,11 +11,11 @@ use Rattle.std.proofs.lemmas.List.Elements.{All-from_recursion, recursion_from_A
 use Rattle.std.proofs.lemmas.List.Sums.{prefix_len-le-length}
 use Rattle.std.proofs.lemmas.Slice.Eq.{bytes_eq-Decides}
 use Rattle.std.proofs.lemmas.Bool.{eqb-true}
-use Rattle.av_base.specs.declared.piece.Piece.{Piece}
-use Rattle.av_base.specs.declared.piece.Piece.TheVariants as piece
+use Rattle.av_base.specs.declared.lexeme.Lexeme.{Lexeme}
+use Rattle.av_base.specs.declared.lexeme.Lexeme.TheVariants as piece
 use Rattle.av_base.specs.Tokens.{is_word_byte, is_blank, IsDigits}
-use Rattle.av_net.specs.declared.token_kind.TokenKind.{TokenKind}
-use Rattle.av_net.specs.declared.token_kind.TokenKind.TheVariants as kind
+use Rattle.av_net.specs.declared.token_kind.DesignTokenKind.{DesignTokenKind}
+use Rattle.av_net.specs.declared.token_kind.DesignTokenKind.TheVariants as kind
 use Rattle.av_net.specs.Lexemes.{reserved_words, begins_name, IsIdentifier, IsSized, IsSpelled, design_texts}
 use Rattle.av_net.specs.Spelling.{is_reserved}
 use Rattle.av_vparse.specs.inner.Lexing.{scanner}
@@ -45,7 +45,7 @@ at_letter : (b : ℕ) (text : List ℕ) → begins_name b ≡ true → token_of 
 unfolding token_of
 at_letter b text h = rw h refl
 
-word_covers : (k : TokenKind) (front back : List ℕ) → IsIdentifier front → word_kind front ≡ k → (b : ℕ) (bytes : List ℕ) → front ++ back ≡ b ∷ bytes → Covers k (length front) (token_of b (front ++ back))
+word_covers : (k : DesignTokenKind) (front back : List ℕ) → IsIdentifier front → word_kind front ≡ k → (b : ℕ) (bytes : List ℕ) → front ++ back ≡ b ∷ bytes → Covers k (length front) (token_of b (front ++ back))
 word_covers k [] back s w b bytes e = absurd s
 word_covers k (x ∷ front) back s w b bytes e = run_token_covers word_kind begins_name is_word_byte token_of alphabetic_word at_letter k x front back s.0 s.1 w b bytes e
 
@@ -93,7 +93,7 @@ by_tail n tail = go (nat_eq tail 0) refl
         record { kind = kind.Literal; len' = n + tail; is = refl; no_less = omega arith; same = λ h. absurd (omega arith) }
 
 -- a token that covers more covers less, where the kind is told by the greater length
-less_covers : (m n : ℕ) (found : Piece TokenKind) → m ≤ n → Covers kind.Number n found → Covers kind.Number m found
+less_covers : (m n : ℕ) (found : Lexeme DesignTokenKind) → m ≤ n → Covers kind.Number n found → Covers kind.Number m found
 less_covers m n found le c = record {
   kind = c.kind;
   len' = c.len';
@@ -165,7 +165,7 @@ number_covers (x ∷ front) back s b bytes e =
     let n : ℕ = prefix_len is_ascii_digit text in
     rw (at_digit b text digit) (less_covers (length (x ∷ front)) n (number_of text) (run_covers is_ascii_digit (x ∷ front) back (digits_all (x ∷ front) s)) (by_tail n (tail_len (drop n text))))
 
-covers : (k : TokenKind) (front back : List ℕ) → IsSpelled k front → (b : ℕ) (bytes : List ℕ) → front ++ back ≡ b ∷ bytes → Covers k (length front) (token_of b (front ++ back))
+covers : (k : DesignTokenKind) (front back : List ℕ) → IsSpelled k front → (b : ℕ) (bytes : List ℕ) → front ++ back ≡ b ∷ bytes → Covers k (length front) (token_of b (front ++ back))
 unfolding token_of symbol_of
 covers kind.Name front back s b bytes e = word_covers kind.Name front back s.0 (name_kind front s.1) b bytes e
 covers kind.Reserved front back s b bytes e = word_covers kind.Reserved front back (reserved_word front s) (reserved_kind front s) b bytes e
@@ -242,7 +242,7 @@ tail_is (b ∷ c ∷ text) h = go (nat_eq b 39) (nat_eq c 100) refl refl h
 take_both : (n m : ℕ) (text : List ℕ) → n ≤ length text → take (n + m) text ≡ take n text ++ take m (drop n text)
 take_both n m text h = take-add n m text
 
-number_fits : (b : ℕ) (bytes : List ℕ) (k : TokenKind) (n : ℕ) → is_ascii_digit b ≡ true → number_of (b ∷ bytes) ≡ piece.Token k n → Fits design_texts k n (b ∷ bytes)
+number_fits : (b : ℕ) (bytes : List ℕ) (k : DesignTokenKind) (n : ℕ) → is_ascii_digit b ≡ true → number_of (b ∷ bytes) ≡ piece.Token k n → Fits design_texts k n (b ∷ bytes)
 unfolding number_of
 number_fits b bytes k n h e =
     elim (chosen (nat_eq tail 0) (piece.Token kind.Number m) (piece.Token kind.Literal (m + tail)) (piece.Token k n) e) [
@@ -277,7 +277,7 @@ signed_fits b bytes h =
     let z = both (nat_le 7 (length (b ∷ bytes))) (bytes_eq (take 7 (b ∷ bytes)) (codes "$signed")) h in
     record { spelled = (bytes_eq-Decides (take 7 (b ∷ bytes)) (codes "$signed")).0 z.1; some = omega arith; within = let q = z.0 in grind arith }
 
-token_fits : (b : ℕ) (bytes : List ℕ) (k : TokenKind) (n : ℕ) → token_of b (b ∷ bytes) ≡ piece.Token k n → Fits design_texts k n (b ∷ bytes)
+token_fits : (b : ℕ) (bytes : List ℕ) (k : DesignTokenKind) (n : ℕ) → token_of b (b ∷ bytes) ≡ piece.Token k n → Fits design_texts k n (b ∷ bytes)
 unfolding token_of symbol_of
 token_fits b bytes k n e =
     elim (chosen (begins_name b) (piece.Token (word_kind (take (prefix_len is_word_byte (b ∷ bytes)) (b ∷ bytes))) (prefix_len is_word_byte (b ∷ bytes))) (cond (is_ascii_digit b) (number_of (b ∷ bytes)) (cond (is_signed (b ∷ bytes)) (piece.Token kind.System 7) (symbol_of b (b ∷ bytes)))) (piece.Token k n) e) [
@@ -312,7 +312,7 @@ no_sized s = go s.size s.spelled
     go [] e = cc
     go (b ∷ size) e = cc
 
-spelled_some : (k : TokenKind) → IsSpelled k [] → ⊥
+spelled_some : (k : DesignTokenKind) → IsSpelled k [] → ⊥
 spelled_some kind.Name s = s.0
 spelled_some kind.Reserved s = reserved_word [] s
 spelled_some kind.System s = absurd cc

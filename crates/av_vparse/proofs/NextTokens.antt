@@ -7,11 +7,11 @@ use Rattle.std.proofs.Math.Numerals.{one-add}
 use Rattle.std.proofs.Math.Seq.{take-append_seam, drop-append_seam}
 use Rattle.std.proofs.lemmas.List.Elements.{recursion_from_All}
 use Rattle.av_base.specs.Tokens.{is_word_byte, IsDigits}
-use Rattle.av_net.specs.declared.token_kind.TokenKind.{TokenKind}
-use Rattle.av_net.specs.declared.token_kind.TokenKind.TheVariants as kind
+use Rattle.av_net.specs.declared.token_kind.DesignTokenKind.{DesignTokenKind}
+use Rattle.av_net.specs.declared.token_kind.DesignTokenKind.TheVariants as kind
 use Rattle.av_net.specs.Lexemes.{reserved_words, begins_name, IsIdentifier, IsName}
-use Rattle.av_base.specs.declared.piece.Piece.{Piece}
-use Rattle.av_base.specs.declared.piece.Piece.TheVariants as piece
+use Rattle.av_base.specs.declared.lexeme.Lexeme.{Lexeme}
+use Rattle.av_base.specs.declared.lexeme.Lexeme.TheVariants as piece
 use Rattle.av_vparse.specs.inner.Scan.{is_single, is_pair, begins_pair, tail_len, number_of, word_kind, symbol_of, token_of}
 use Rattle.av_vparse.proofs.Tables.{and_false, is_other, reserved_word}
 use Rattle.av_vparse.proofs.Longest.{name_kind, reserved_kind, other_symbol, digits_all, at_digit, literal_number, sized_length}
@@ -40,14 +40,14 @@ no_word (b ∷ rest) c = go (is_word_byte b) refl (both (not (is_word_byte b)) _
 no_slash : (b : ℕ) → begins_name b ≡ true → nat_eq b 47 ≡ false
 no_slash b h = grind arith
 
-abbrev word_piece : List ℕ → ℕ → Piece TokenKind
+abbrev word_piece : List ℕ → ℕ → Lexeme DesignTokenKind
 word_piece bytes n = piece.Token (word_kind (take n bytes)) n
 
 word_found : (b : ℕ) (bytes : List ℕ) → begins_name b ≡ true → token_of b bytes ≡ word_piece bytes (prefix_len is_word_byte bytes)
 unfolding token_of
 word_found b bytes h = rw h refl
 
-word_next : (k : TokenKind) (text rest : List ℕ) → IsIdentifier text → word_kind text ≡ k → is_clear rest ≡ true → IsNext k text rest
+word_next : (k : DesignTokenKind) (text rest : List ℕ) → IsIdentifier text → word_kind text ≡ k → is_clear rest ≡ true → IsNext k text rest
 word_next k [] rest w e c = absurd w
 word_next k (b ∷ text) rest w e c =
     let all : AllByRecursion (λ x. is_word_byte x ≡ true) (b ∷ text) = (first b w.0, recursion_from_All (λ x. is_word_byte x ≡ true) text w.1) in

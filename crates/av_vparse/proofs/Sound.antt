@@ -3,7 +3,7 @@ use Rattle.std.proofs.Common.{◌≡◌, ◌≢◌, ℕ, zero, suc, ◌+◌, ◌
 use Rattle.std.specs.Prelude.{codes}
 use Rattle.std.specs.Str.{bytes_eq}
 use Rattle.av_base.specs.declared.width.Width.{Width}
-use Rattle.av_net.specs.declared.token_kind.TokenKind.TheVariants as kind
+use Rattle.av_net.specs.declared.token_kind.DesignTokenKind.TheVariants as kind
 use Rattle.av_net.specs.declared.operation.Symbol.{Symbol}
 use Rattle.av_net.specs.declared.operation.Symbol.TheVariants as symbol
 use Rattle.av_net.specs.declared.operation.Operand.{Operand}
@@ -16,7 +16,7 @@ use Rattle.av_net.specs.declared.netlist.Step.{Step}
 use Rattle.av_net.specs.Names.{clk, rst}
 use Rattle.av_net.specs.Sound.{IsOrder}
 use Rattle.av_net.specs.Lexemes.{Token}
-use Rattle.av_net.specs.Grammar.{Text, ModuleText, Declaration, wire, register, Link, Instantiation, Item, drive, widening, step as step_item, instance, AreWords, no_word, next_word, IsWordAt, IsNameAt, name, IsNumberAt, IsLiteralAt, IsRange, no_range, range, IsPort, IsDeclaration, wire_declaration, register_declaration, IsPart, IsWidening, IsOperand, named, constant, spelling, IsSigned, IsOperation, plain, binary, signed, choice, selection, IsEdge, AreMany, no_more, one_more, IsLink, IsNextLink, IsItem, assignment, wide_assignment, at_an_edge, instantiation, IsKindInput, IsKindDeclaration, kind_wire, IsKindItem, kind_assignment, kind_wide_assignment, IsClockFirst, IsKind, IsClocked, IsTop, IsText}
+use Rattle.av_net.specs.Grammar.{Text, ModuleText, SignalDeclaration, wire, register, PortLink, Instantiation, Item, drive, widening, step as step_item, instance, AreWords, no_word, next_word, IsWordAt, IsNameAt, name, IsNumberAt, IsLiteralAt, IsRange, no_range, range, IsPort, IsDeclaration, wire_declaration, register_declaration, IsPart, IsWidening, IsOperand, named, constant, spelling, IsSigned, IsOperation, plain, binary, signed, choice, selection, IsEdge, AreMany, no_more, one_more, IsLink, IsNextLink, IsItem, assignment, wide_assignment, at_an_edge, instantiation, IsKindInput, IsKindDeclaration, kind_wire, IsKindItem, kind_assignment, kind_wide_assignment, IsClockFirst, IsKind, IsClocked, IsTop, IsText}
 use Rattle.av_vparse.specs.inner.Reading.{Read, same, after, is_at, are_at, begins_literal, word_at, words_at, name_at, number_at, Sized, literal_at, end_at, width_for, range_at, port_at, directed_at, declared_at, begins_declaration, declaration_at, operand_at, order_of, arithmetic_of, bitwise_of, or_else, symbol_of, symbol_at, order_by, order_at, signed_at, comparison_at, choice_at, selection_at, selected_bit_at, widening_at, alone_by, binary_by, operation_by, operation_at, given_at, assigned_at, this_name_at, edge_at, reset_at, step_at, link_at, next_link_at, links_at, instance_at, begins_item, item_at, many_at, all_at, ports_at, declarations_at, items_at, assignments_at, Header, closed_at, clocked_at, header_at, with_body, top_at, begins_top, begins_kind, kind_input_at, kind_inputs_at, more_outputs_at, kind_outputs_at, kind_header_at, kind_wire_at, kind_wires_at, kind_at, kinds_at, text_at}
 use Rattle.av_vparse.proofs.Steps.{step, chosen, ok_is, other_than, text_is, same_self, kind_other, is_text, word_took, at_word, words_took, name_took, this_name_took, number_took, literal_took, end_took}
 use Rattle.av_vparse.proofs.BitsOf.{bits_of}
@@ -72,18 +72,18 @@ declared_took word ts a y w e =
     subst (λ (z : Port × List Token). Declared word ts z.1 z.0) (ok_is found y r2)
     (record { a = port.1; port_is = port_took (word ∷ []) ts a port w e1; ends = word_took (codes ";") port.1 rest e2 })))
 
-pub declaration_took : (ts : List Token) (y : Declaration × List Token) → declaration_at ts ≡ Ok y → IsDeclaration ts y.1 y.0
+pub declaration_took : (ts : List Token) (y : SignalDeclaration × List Token) → declaration_at ts ≡ Ok y → IsDeclaration ts y.1 y.0
 unfolding declaration_at
 declaration_took ts y e =
     chosen (is_at (codes "wire") ts) _ _ _ e
     (λ h r. step (declared_at (after ts)) _ y r (λ port e1 r1.
     let d = declared_took (codes "wire") ts (after ts) port (at_word (codes "wire") ts h) e1 in
-    let found : Declaration × List Token = (wire port.0, port.1) in
-    subst (λ (z : Declaration × List Token). IsDeclaration ts z.1 z.0) (ok_is found y r1) (wire_declaration d.port_is d.ends)))
+    let found : SignalDeclaration × List Token = (wire port.0, port.1) in
+    subst (λ (z : SignalDeclaration × List Token). IsDeclaration ts z.1 z.0) (ok_is found y r1) (wire_declaration d.port_is d.ends)))
     (λ h r. step (word_at (codes "reg") ts) _ y r (λ a e1 r1. step (declared_at a) _ y r1 (λ port e2 r2.
     let d = declared_took (codes "reg") ts a port (word_took (codes "reg") ts a e1) e2 in
-    let found : Declaration × List Token = (register port.0, port.1) in
-    subst (λ (z : Declaration × List Token). IsDeclaration ts z.1 z.0) (ok_is found y r2) (register_declaration d.port_is d.ends))))
+    let found : SignalDeclaration × List Token = (register port.0, port.1) in
+    subst (λ (z : SignalDeclaration × List Token). IsDeclaration ts z.1 z.0) (ok_is found y r2) (register_declaration d.port_is d.ends))))
 
 -- ---- operations
 
@@ -406,34 +406,34 @@ ports_took direction ts y e = all_took (IsPort (codes "," ∷ direction ∷ []))
 
 -- ---- instances
 
-pub link_took : (ts : List Token) (y : Link × List Token) → link_at ts ≡ Ok y → IsLink ts y.1 y.0
+pub link_took : (ts : List Token) (y : PortLink × List Token) → link_at ts ≡ Ok y → IsLink ts y.1 y.0
 unfolding link_at
 link_took ts y e =
     step (word_at (codes ".") ts) _ y e (λ a e1 r1. step (name_at a) _ y r1 (λ n e2 r2. step (word_at (codes "(") n.1) _ y r2 (λ c e3 r3.
     step (operand_at c) _ y r3 (λ o e4 r4. step (word_at (codes ")") o.1) _ y r4 (λ rest e5 r5.
-    let l : Link = record { port = n.0; operand = o.0 } in
-    let found : Link × List Token = (l, rest) in
-    subst (λ (z : Link × List Token). IsLink ts z.1 z.0) (ok_is found y r5)
+    let l : PortLink = record { port = n.0; operand = o.0 } in
+    let found : PortLink × List Token = (l, rest) in
+    subst (λ (z : PortLink × List Token). IsLink ts z.1 z.0) (ok_is found y r5)
     (record { a = a; b = n.1; c = c; d = o.1; dot = word_took _ ts a e1; port = name_took a n e2; opens = word_took _ n.1 c e3; operand = operand_took c o e4; closes = word_took _ o.1 rest e5 }))))))
 
-pub next_link_took : (ts : List Token) (y : Link × List Token) → next_link_at ts ≡ Ok y → IsNextLink ts y.1 y.0
+pub next_link_took : (ts : List Token) (y : PortLink × List Token) → next_link_at ts ≡ Ok y → IsNextLink ts y.1 y.0
 unfolding next_link_at
 next_link_took ts y e = step (word_at (codes ",") ts) _ y e (λ a e1 r1. record { a = a; comma = word_took _ ts a e1; linked = link_took a y r1 })
 
 -- one link and more behind commas
-pub record Links (ts rest : List Token) (links : List Link) : Type 0 where
+pub record Links (ts rest : List Token) (links : List PortLink) : Type 0 where
   pub a : List Token
-  pub first : Link
-  pub later : List Link
+  pub first : PortLink
+  pub later : List PortLink
   pub links_first : IsLink ts a first
   pub links_later : AreMany IsNextLink a rest later
   pub are : links ≡ first ∷ later
 
-links_took : (ts : List Token) (y : List Link × List Token) → links_at ts ≡ Ok y → Links ts y.1 y.0
+links_took : (ts : List Token) (y : List PortLink × List Token) → links_at ts ≡ Ok y → Links ts y.1 y.0
 links_took ts y e =
     step (link_at ts) _ y e (λ first e1 r1. step (all_at (is_at (codes ",")) next_link_at first.1) _ y r1 (λ later e2 r2.
-    let found : List Link × List Token = (first.0 ∷ later.0, later.1) in
-    subst (λ (z : List Link × List Token). Links ts z.1 z.0) (ok_is found y r2)
+    let found : List PortLink × List Token = (first.0 ∷ later.0, later.1) in
+    subst (λ (z : List PortLink × List Token). Links ts z.1 z.0) (ok_is found y r2)
     (record { a = first.1; first = first.0; later = later.0; links_first = link_took ts first e1; links_later = all_took IsNextLink (is_at (codes ",")) next_link_at (λ ts y b e. next_link_took ts y e) first.1 later e2; are = refl })))
 
 instance_took : (ts : List Token) (y : Item × List Token) → instance_at ts ≡ Ok y → IsItem ts y.1 y.0
@@ -536,13 +536,13 @@ kind_header_took ts y e =
       closes = words_took _ o.1 rest e6;
     })))))))
 
-pub kind_wire_took : (ts : List Token) (y : Declaration × List Token) → kind_wire_at ts ≡ Ok y → IsKindDeclaration ts y.1 y.0
+pub kind_wire_took : (ts : List Token) (y : SignalDeclaration × List Token) → kind_wire_at ts ≡ Ok y → IsKindDeclaration ts y.1 y.0
 unfolding kind_wire_at
 kind_wire_took ts y e =
     step (word_at (codes "wire") ts) _ y e (λ a e1 r1. step (declared_at a) _ y r1 (λ port e2 r2.
     let d = declared_took (codes "wire") ts a port (word_took (codes "wire") ts a e1) e2 in
-    let found : Declaration × List Token = (wire port.0, port.1) in
-    subst (λ (z : Declaration × List Token). IsKindDeclaration ts z.1 z.0) (ok_is found y r2) (kind_wire d.port_is d.ends)))
+    let found : SignalDeclaration × List Token = (wire port.0, port.1) in
+    subst (λ (z : SignalDeclaration × List Token). IsKindDeclaration ts z.1 z.0) (ok_is found y r2) (kind_wire d.port_is d.ends)))
 
 -- with `module name(input clk` a top begins
 pub top_there : {ts a b c d e : List Token} {text : List ℕ} → IsWordAt (codes "module") ts a → IsNameAt a b text → IsWordAt (codes "(") b c → IsWordAt (codes "input") c d → IsNameAt d e clk → begins_top ts ≡ true

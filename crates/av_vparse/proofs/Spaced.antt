@@ -5,10 +5,10 @@ use Rattle.std.specs.List.{AllByRecursion}
 use Rattle.std.proofs.Math.Seq.{take-append_seam, drop-append_seam}
 use Rattle.av_base.specs.declared.place.Place.{Place}
 use Rattle.av_base.specs.Tokens.{next_place, moved, is_blank}
-use Rattle.av_net.specs.declared.token_kind.TokenKind.{TokenKind}
-use Rattle.av_net.specs.declared.token_kind.TokenKind.TheVariants as kind
+use Rattle.av_net.specs.declared.token_kind.DesignTokenKind.{DesignTokenKind}
+use Rattle.av_net.specs.declared.token_kind.DesignTokenKind.TheVariants as kind
 use Rattle.av_net.specs.Lexemes.{Token, IsLongest, IsCommented, AreTokens, design_texts, end, blank, token}
-use Rattle.av_base.specs.declared.piece.Piece.TheVariants as piece
+use Rattle.av_base.specs.declared.lexeme.Lexeme.TheVariants as piece
 use Rattle.av_vparse.specs.inner.Lexing.{scanner}
 use Rattle.av_vparse.specs.inner.Scan.{token_of}
 use Rattle.av_base.proofs.Longest.{token_found}
@@ -17,7 +17,7 @@ use Rattle.av_vparse.proofs.Longest.{finds}
 -- a token with the blanks before and after it
 pub record Written : Type 0 where
   pub before : List ℕ
-  pub kind : TokenKind
+  pub kind : DesignTokenKind
   pub text : List ℕ
   pub after : List ℕ
 
@@ -38,7 +38,7 @@ tokens_from p [] = record { kind = kind.End; text = []; place = p } ∷ []
 tokens_from p (w ∷ ws) = record { kind = w.kind; text = w.text; place = moved p w.before } ∷ tokens_from (past p w) ws
 
 -- this text is the token that is found before the rest
-pub record IsNext (k : TokenKind) (text rest : List ℕ) : Type 0 where
+pub record IsNext (k : DesignTokenKind) (text rest : List ℕ) : Type 0 where
   pub first : ℕ
   pub later : List ℕ
   pub is : text ≡ first ∷ later
@@ -62,13 +62,13 @@ no_comment b bytes h c = let head : b ≡ 47 = heads b bytes c.0 c.1 in let z : 
     heads : (b : ℕ) (bytes more : List ℕ) → b ∷ bytes ≡ 47 ∷ 47 ∷ more → b ≡ 47
     heads b bytes more e = cc
 
-longest_next : (k : TokenKind) (b : ℕ) (later rest : List ℕ) → token_of b (b ∷ later ++ rest) ≡ piece.Token k (length (b ∷ later)) → IsLongest k (b ∷ later) rest
+longest_next : (k : DesignTokenKind) (b : ℕ) (later rest : List ℕ) → token_of b (b ∷ later ++ rest) ≡ piece.Token k (length (b ∷ later)) → IsLongest k (b ∷ later) rest
 longest_next k b later rest e =
     let f = token_found design_texts scanner finds b (later ++ rest) k (length (b ∷ later)) e in
     subst (λ (z : List ℕ). IsLongest k z rest) (take-append_seam (b ∷ later) rest)
     (subst (λ (z : List ℕ). IsLongest k (take (length (b ∷ later)) (b ∷ later ++ rest)) z) (drop-append_seam (b ∷ later) rest) f.longest)
 
-token_before : (p : Place) (k : TokenKind) (text rest : List ℕ) (ts : List Token) → IsNext k text rest → AreTokens (moved p text) rest ts
+token_before : (p : Place) (k : DesignTokenKind) (text rest : List ℕ) (ts : List Token) → IsNext k text rest → AreTokens (moved p text) rest ts
     → AreTokens p (text ++ rest) (record { kind = k; text = text; place = p } ∷ ts)
 token_before p k text rest ts n t = by n.first n.later n.is n.no_slash n.found
   where

@@ -11,8 +11,8 @@ use Rattle.std.proofs.lemmas.Slice.Eq.{bytes_eq-Decides}
 use Rattle.av_base.specs.declared.place.Place.{Place}
 use Rattle.av_base.specs.declared.width.Width.{Width}
 use Rattle.av_base.specs.Tokens.{IsDigits, number_of}
-use Rattle.av_net.specs.declared.token_kind.TokenKind.{TokenKind}
-use Rattle.av_net.specs.declared.token_kind.TokenKind.TheVariants as kind
+use Rattle.av_net.specs.declared.token_kind.DesignTokenKind.{DesignTokenKind}
+use Rattle.av_net.specs.declared.token_kind.DesignTokenKind.TheVariants as kind
 use Rattle.av_net.specs.Lexemes.{Token, IsSized}
 use Rattle.av_net.specs.Grammar.{AreWords, no_word, next_word, IsWordAt, IsNameAt, name, IsNumberAt, number, IsLiteral, IsLiteralAt, literal, IsEnd, end}
 use Rattle.av_vparse.specs.inner.Bits.{is_width, width_of}
@@ -44,11 +44,11 @@ ok_is x y e = cc
 
 -- ---- kinds
 
-kind_of : ℕ → TokenKind
+kind_of : ℕ → DesignTokenKind
 kind_of n =
     cond (nat_eq n 0) kind.Name (cond (nat_eq n 1) kind.Reserved (cond (nat_eq n 2) kind.System (cond (nat_eq n 3) kind.Number (cond (nat_eq n 4) kind.Literal (cond (nat_eq n 5) kind.Symbol kind.End)))))
 
-kind_of-code : (k : TokenKind) → kind_of (code k) ≡ k
+kind_of-code : (k : DesignTokenKind) → kind_of (code k) ≡ k
 unfolding kind_of
 kind_of-code kind.Name = refl
 kind_of-code kind.Reserved = refl
@@ -58,10 +58,10 @@ kind_of-code kind.Literal = refl
 kind_of-code kind.Symbol = refl
 kind_of-code kind.End = refl
 
-pub same_is : (a b : TokenKind) → same a b ≡ true → a ≡ b
+pub same_is : (a b : DesignTokenKind) → same a b ≡ true → a ≡ b
 same_is a b e = sym (kind_of-code a) ∙ (ap kind_of (eqb-true (code a) (code b) e) ∙ kind_of-code b)
 
-pub same_self : (a b : TokenKind) → a ≡ b → same a b ≡ true
+pub same_self : (a b : DesignTokenKind) → a ≡ b → same a b ≡ true
 same_self a b e = eq-eqb (code a) (code b) (ap code e)
 
 pub text_is : (t u : List ℕ) → bytes_eq t u ≡ true → t ≡ u
@@ -70,22 +70,22 @@ text_is t u e = (bytes_eq-Decides t u).0 e
 pub is_text : (t u : List ℕ) → t ≡ u → bytes_eq t u ≡ true
 is_text t u e = (bytes_eq-Decides t u).1 e
 
-pub other_than : (k : TokenKind) → same k kind.Name ≡ false → k ≢ kind.Name
+pub other_than : (k : DesignTokenKind) → same k kind.Name ≡ false → k ≢ kind.Name
 other_than k e n = absurd (true≢false (sym (same_self k kind.Name n) ∙ e))
 
 -- ---- words
 
-pub other_kind : (k : TokenKind) → not (same k kind.Name) ≡ true → k ≢ kind.Name
+pub other_kind : (k : DesignTokenKind) → not (same k kind.Name) ≡ true → k ≢ kind.Name
 other_kind k e n = let z : same k kind.Name ≡ true = same_self k kind.Name n in absurd (true≢false (sym e ∙ ap not z))
 
-pub kind_other : (k : TokenKind) → k ≢ kind.Name → not (same k kind.Name) ≡ true
+pub kind_other : (k : DesignTokenKind) → k ≢ kind.Name → not (same k kind.Name) ≡ true
 kind_other k n = go (same k kind.Name) refl
   where
     go : (t : Bool) → same k kind.Name ≡ t → not t ≡ true
     go true e = absurd (n (same_is k kind.Name e))
     go false e = refl
 
-pub not_name : (k : TokenKind) → k ≢ kind.Name → same k kind.Name ≡ false
+pub not_name : (k : DesignTokenKind) → k ≢ kind.Name → same k kind.Name ≡ false
 not_name k n = go (same k kind.Name) refl
   where
     go : (t : Bool) → same k kind.Name ≡ t → t ≡ false

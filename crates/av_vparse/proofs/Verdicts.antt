@@ -1,7 +1,7 @@
 -- How a reader of tokens ends: behind a spelling, or at the first token that no spelling has there.
 use Rattle.std.proofs.Common.{◌≡◌, ◌≢◌, ◌<◌, Bool, true, false, true≢false, cond, List, [], ◌∷◌, ◌++◌, length, take, Result, Ok, Err, refl, sym, ap, subst, ◌∙◌, arith, append_assoc}
 use Rattle.av_base.specs.declared.place.Place.{Place}
-use Rattle.av_net.specs.declared.token_kind.TokenKind.TheVariants as kind
+use Rattle.av_net.specs.declared.token_kind.DesignTokenKind.TheVariants as kind
 use Rattle.av_net.specs.Lexemes.{Token}
 use Rattle.av_vparse.specs.inner.Reading.{◌>>=◌}
 

@@ -1,20 +1,20 @@
 -- What a text that the program read says.
 use Rattle.std.specs.Prelude.{map}
-use Rattle.av_net.specs.Grammar.{Text, ModuleText, Declaration, wire, register, Link, Instantiation, Item, drive, widening, step, instance}
-use Rattle.av_vparse.specs.declared.parsed.Declaration.{Declaration as FoundDeclaration}
-use Rattle.av_vparse.specs.declared.parsed.Declaration.TheVariants as declaration
+use Rattle.av_net.specs.Grammar.{Text, ModuleText, SignalDeclaration, wire, register, PortLink, Instantiation, Item, drive, widening, step, instance}
+use Rattle.av_vparse.specs.declared.parsed.SignalDeclaration.{SignalDeclaration as FoundDeclaration}
+use Rattle.av_vparse.specs.declared.parsed.SignalDeclaration.TheVariants as declaration
 use Rattle.av_vparse.specs.declared.parsed.Item.{Item as FoundItem}
 use Rattle.av_vparse.specs.declared.parsed.Item.TheVariants as item
-use Rattle.av_vparse.specs.declared.parsed.Link.{Link as FoundLink}
+use Rattle.av_vparse.specs.declared.parsed.PortLink.{PortLink as FoundLink}
 use Rattle.av_vparse.specs.declared.parsed.Instantiation.{Instantiation as FoundInstance}
 use Rattle.av_vparse.specs.declared.parsed.ModuleText.{ModuleText as FoundModule}
 use Rattle.av_vparse.specs.declared.parsed.Text.{Text as FoundText}
 
-abbrev pub said_declaration : FoundDeclaration → Declaration
+abbrev pub said_declaration : FoundDeclaration → SignalDeclaration
 said_declaration (declaration.Wire port) = wire port
 said_declaration (declaration.Register port) = register port
 
-abbrev pub said_link : FoundLink → Link
+abbrev pub said_link : FoundLink → PortLink
 said_link x = record { port = x.port; operand = x.operand }
 
 abbrev pub said_instance : FoundInstance → Instantiation

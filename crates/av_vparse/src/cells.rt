@@ -5,14 +5,14 @@ ghost use Rattle.av_vparse.specs.inner.Lexing.{views};
 ghost use Rattle.av_vparse.specs.inner.Reading.{Gives, begins_kind, kind_input_at, kind_inputs_at, outputs_from, kind_outputs_at, kind_ports_at, kind_header_at, kind_wire_at, kind_wires_at, kind_body_at, kind_at, kinds_at, said_header};
 ghost use Rattle.av_vparse.specs.Said.{said_declaration, said_module};
 
-use crate::cursor::Cursor;
+use crate::cursor::DesignCursor;
 use crate::fault::ReadError;
-use crate::parsed::{Declaration, Header, ModuleText};
+use crate::parsed::{Header, ModuleText, SignalDeclaration};
 use crate::token::{is_name, is_word};
 use av_base::{List, Name};
-use av_net::{Port, TokenKind};
+use av_net::{DesignTokenKind, Port};
 
-impl<'t, 'a> Cursor<'t, 'a> {
+impl<'t, 'a> DesignCursor<'t, 'a> {
     // Whether tokens are left, and they do not begin as a top, with `module name(input clk`.
     fn begins_kind(&self) -> bool
         ensures { result ≡ begins_kind (views self.now.rest.now) }
@@ -21,7 +21,7 @@ impl<'t, 'a> Cursor<'t, 'a> {
             [] => false,
             [module, name, opens, input, clock, ..] => {
                 !(is_word(module, "module")
-                    && name.kind == TokenKind::Name
+                    && name.kind == DesignTokenKind::Name
                     && is_word(opens, "(")
                     && is_word(input, "input")
                     && is_name(clock, "clk"))
@@ -98,15 +98,15 @@ impl<'t, 'a> Cursor<'t, 'a> {
     }
 
     #[tactic(auto, unfolding(crate::specs::inner::Reading::kind_wire_at))]
-    fn kind_wire(&mut self) -> Result<Declaration, ReadError>
+    fn kind_wire(&mut self) -> Result<SignalDeclaration, ReadError>
         ensures { Gives (λ x. (said_declaration x, views self.new.rest.now)) result (kind_wire_at (views self.old.rest.now)) }
     {
         self.word("wire")?;
         let port = self.declared()?;
-        Ok(Declaration::Wire(port))
+        Ok(SignalDeclaration::Wire(port))
     }
 
-    fn kind_wires(&mut self) -> Result<List<Declaration>, ReadError>
+    fn kind_wires(&mut self) -> Result<List<SignalDeclaration>, ReadError>
         ensures { Gives (λ x. (map said_declaration x, views self.new.rest.now)) result (kind_wires_at (views self.old.rest.now)) }
     {
         let mut found = List::new(self.alloc);

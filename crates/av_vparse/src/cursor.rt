@@ -6,9 +6,9 @@ ghost use Rattle.av_vparse.specs.inner.Reading.{Gives, place_of, after, is_at, a
 
 use crate::fault::ReadError;
 use crate::literal::{Literal, literal_of};
-use crate::token::{Token, is_word};
+use crate::token::{DesignToken, is_word};
 use av_base::{Name, Place, decimal_value};
-use av_net::TokenKind;
+use av_net::DesignTokenKind;
 use std::alloc::Global;
 
 /// The greatest number of a bit.
@@ -16,12 +16,12 @@ pub(crate) const MOST_BIT: u64 = 63;
 
 /// The tokens that are left.
 #[derive(Drop)]
-pub(crate) struct Cursor<'t, 'a> {
+pub(crate) struct DesignCursor<'t, 'a> {
     pub(crate) alloc: Global,
-    pub(crate) rest: &'t [Token<'a>],
+    pub(crate) rest: &'t [DesignToken<'a>],
 }
 
-impl<'t, 'a> Cursor<'t, 'a> {
+impl<'t, 'a> DesignCursor<'t, 'a> {
     /// Where the next token stands.
     pub(crate) fn place(&self) -> Place
         ensures { result ≡ place_of (views self.now.rest.now) }
@@ -66,7 +66,7 @@ impl<'t, 'a> Cursor<'t, 'a> {
         ensures { result ≡ begins_literal (views self.now.rest.now) }
     {
         match self.rest {
-            [first, ..] => first.kind == TokenKind::Literal,
+            [first, ..] => first.kind == DesignTokenKind::Literal,
             [] => false,
         }
     }
@@ -76,7 +76,7 @@ impl<'t, 'a> Cursor<'t, 'a> {
         ensures { result ≡ begins_name (views self.now.rest.now) }
     {
         match self.rest {
-            [first, ..] => first.kind == TokenKind::Name,
+            [first, ..] => first.kind == DesignTokenKind::Name,
             [] => false,
         }
     }
@@ -109,7 +109,7 @@ impl<'t, 'a> Cursor<'t, 'a> {
         ensures { Gives (λ x. (x, views self.new.rest.now)) result (name_at (views self.old.rest.now)) }
     {
         match self.rest {
-            [first, rest @ ..] if first.kind == TokenKind::Name => {
+            [first, rest @ ..] if first.kind == DesignTokenKind::Name => {
                 self.rest = rest;
                 Ok(Name::new(self.alloc, first.text)?)
             }
@@ -123,7 +123,7 @@ impl<'t, 'a> Cursor<'t, 'a> {
         ensures { Gives (λ _. views self.new.rest.now) result (this_name_at name.now (views self.old.rest.now)) }
     {
         match self.rest {
-            [first, rest @ ..] if first.kind == TokenKind::Name && first.text == name => {
+            [first, rest @ ..] if first.kind == DesignTokenKind::Name && first.text == name => {
                 self.rest = rest;
                 Ok(())
             }
@@ -138,7 +138,7 @@ impl<'t, 'a> Cursor<'t, 'a> {
         ensures gives { Gives (λ x. (x, views self.new.rest.now)) result (number_at least most (views self.old.rest.now)) }
     {
         match self.rest {
-            [first, rest @ ..] if first.kind == TokenKind::Number => {
+            [first, rest @ ..] if first.kind == DesignTokenKind::Number => {
                 match decimal_value(first.text.as_bytes()) {
                     Some(value) if least <= value && value <= most => {
                         self.rest = rest;
@@ -157,7 +157,7 @@ impl<'t, 'a> Cursor<'t, 'a> {
         ensures { Gives (λ x. (sized_view x, views self.new.rest.now)) result (literal_at (views self.old.rest.now)) }
     {
         match self.rest {
-            [first, rest @ ..] if first.kind == TokenKind::Literal => {
+            [first, rest @ ..] if first.kind == DesignTokenKind::Literal => {
                 match literal_of(first.text) {
                     Some(literal) => {
                         self.rest = rest;
@@ -176,7 +176,7 @@ impl<'t, 'a> Cursor<'t, 'a> {
         ensures { Gives (λ _. tt) result (end_at (views self.now.rest.now)) }
     {
         match self.rest {
-            [last] if last.kind == TokenKind::End => Ok(()),
+            [last] if last.kind == DesignTokenKind::End => Ok(()),
             _ => Err(ReadError::Syntax(self.place())),
         }
     }

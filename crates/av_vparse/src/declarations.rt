@@ -5,9 +5,9 @@ ghost use Rattle.av_vparse.specs.inner.Lexing.{views};
 ghost use Rattle.av_vparse.specs.inner.Reading.{Gives, width_for, range_at, port_at, directed_at, declared_at, begins_declaration, declaration_at, ports_at, declarations_at};
 ghost use Rattle.av_vparse.specs.Said.{said_declaration};
 
-use crate::cursor::{Cursor, MOST_BIT};
+use crate::cursor::{DesignCursor, MOST_BIT};
 use crate::fault::ReadError;
-use crate::parsed::Declaration;
+use crate::parsed::SignalDeclaration;
 use av_base::{List, Width};
 use av_net::Port;
 
@@ -21,7 +21,7 @@ fn width_above(number: u64) -> Width
     }
 }
 
-impl<'t, 'a> Cursor<'t, 'a> {
+impl<'t, 'a> DesignCursor<'t, 'a> {
     #[tactic(auto, unfolding(crate::specs::inner::Reading::range_at))]
     fn range(&mut self) -> Result<Width, ReadError>
         ensures { Gives (λ x. (x, views self.new.rest.now)) result (range_at (views self.old.rest.now)) }
@@ -85,21 +85,21 @@ impl<'t, 'a> Cursor<'t, 'a> {
     }
 
     #[tactic(auto, unfolding(crate::specs::inner::Reading::declaration_at))]
-    fn declaration(&mut self) -> Result<Declaration, ReadError>
+    fn declaration(&mut self) -> Result<SignalDeclaration, ReadError>
         ensures { Gives (λ x. (said_declaration x, views self.new.rest.now)) result (declaration_at (views self.old.rest.now)) }
     {
         if self.is_at("wire") {
             self.skip();
             let port = self.declared()?;
-            return Ok(Declaration::Wire(port));
+            return Ok(SignalDeclaration::Wire(port));
         }
         self.word("reg")?;
         let port = self.declared()?;
-        Ok(Declaration::Register(port))
+        Ok(SignalDeclaration::Register(port))
     }
 
     /// Declarations, as many as stand there.
-    pub(crate) fn declarations(&mut self) -> Result<List<Declaration>, ReadError>
+    pub(crate) fn declarations(&mut self) -> Result<List<SignalDeclaration>, ReadError>
         ensures { Gives (λ x. (map said_declaration x, views self.new.rest.now)) result (declarations_at (views self.old.rest.now)) }
     {
         let mut found = List::new(self.alloc);

@@ -1,11 +1,11 @@
 ghost use Rattle.std.specs.Prelude.{◌≡◌};
-ghost use Rattle.av_vparse.specs.declared.fault.ParseFault.TheVariants as fault;
+ghost use Rattle.av_vparse.specs.declared.fault.TextFault.TheVariants as fault;
 
 use av_base::{Memory, Place};
 
 /// Why bytes say no text.
 #[derive(Clone, Copy, Debug, PartialEq, Eq)]
-pub enum ParseFault {
+pub enum TextFault {
     /// The byte there begins no token.
     Byte(Place),
     /// The token there is the first that no text continues.
@@ -14,11 +14,11 @@ pub enum ParseFault {
     Memory,
 }
 
-impl From<Memory> for ParseFault {
+impl From<Memory> for TextFault {
     ghost from_gives = { λ _ e. e ≡ fault.Memory };
 
-    fn from(_: Memory) -> ParseFault {
-        ParseFault::Memory
+    fn from(_: Memory) -> TextFault {
+        TextFault::Memory
     }
 }
 
@@ -43,12 +43,12 @@ impl ReadError {
     ghost use Rattle.av_vparse.specs.inner.Answers.{fault_for};
 
     /// The fault of the bytes that it stands for.
-    pub(crate) fn fault(self) -> ParseFault
+    pub(crate) fn fault(self) -> TextFault
         ensures { result ≡ fault_for self }
     {
         match self {
-            ReadError::Syntax(place) => ParseFault::Syntax(place),
-            ReadError::Memory => ParseFault::Memory,
+            ReadError::Syntax(place) => TextFault::Syntax(place),
+            ReadError::Memory => TextFault::Memory,
         }
     }
 }

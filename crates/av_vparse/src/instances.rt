@@ -5,15 +5,15 @@ ghost use Rattle.av_vparse.specs.inner.Lexing.{views};
 ghost use Rattle.av_vparse.specs.inner.Reading.{Gives, link_at, next_link_at, links_from, links_at, instance_at};
 ghost use Rattle.av_vparse.specs.Said.{said_link, said_item};
 
-use crate::cursor::Cursor;
+use crate::cursor::DesignCursor;
 use crate::fault::ReadError;
-use crate::parsed::{Instantiation, Item, Link};
+use crate::parsed::{Instantiation, Item, PortLink};
 use av_base::List;
 
-impl<'t, 'a> Cursor<'t, 'a> {
+impl<'t, 'a> DesignCursor<'t, 'a> {
     // `.port(operand)`
     #[tactic(auto, unfolding(crate::specs::inner::Reading::link_at))]
-    fn link(&mut self) -> Result<Link, ReadError>
+    fn link(&mut self) -> Result<PortLink, ReadError>
         ensures { Gives (λ x. (said_link x, views self.new.rest.now)) result (link_at (views self.old.rest.now)) }
     {
         self.word(".")?;
@@ -21,11 +21,11 @@ impl<'t, 'a> Cursor<'t, 'a> {
         self.word("(")?;
         let operand = self.operand()?;
         self.word(")")?;
-        Ok(Link { port, operand })
+        Ok(PortLink { port, operand })
     }
 
     #[tactic(auto, unfolding(crate::specs::inner::Reading::next_link_at))]
-    fn next_link(&mut self) -> Result<Link, ReadError>
+    fn next_link(&mut self) -> Result<PortLink, ReadError>
         ensures { Gives (λ x. (said_link x, views self.new.rest.now)) result (next_link_at (views self.old.rest.now)) }
     {
         self.word(",")?;
@@ -33,14 +33,14 @@ impl<'t, 'a> Cursor<'t, 'a> {
     }
 
     // One link and more behind commas.
-    fn links(&mut self) -> Result<List<Link>, ReadError>
+    fn links(&mut self) -> Result<List<PortLink>, ReadError>
         ensures { Gives (λ x. (map said_link x, views self.new.rest.now)) result (links_at (views self.old.rest.now)) }
     {
         let first = self.link()?;
         self.links_from(first)
     }
 
-    fn links_from(&mut self, first: Link) -> Result<List<Link>, ReadError>
+    fn links_from(&mut self, first: PortLink) -> Result<List<PortLink>, ReadError>
         ensures { Gives (λ x. (map said_link x, views self.new.rest.now)) result (links_from (said_link first) (views self.old.rest.now)) }
     {
         let mut found = List::new(self.alloc);

@@ -5,14 +5,14 @@ ghost use Rattle.av_vparse.specs.inner.Lexing.{views};
 ghost use Rattle.av_vparse.specs.inner.Reading.{Gives, sized_view, widened_at, driven_at, assigned_at, edge_at, reset_at, step_at, begins_item, item_at, items_at, assignments_at};
 ghost use Rattle.av_vparse.specs.Said.{said_item};
 
-use crate::cursor::Cursor;
+use crate::cursor::DesignCursor;
 use crate::fault::ReadError;
 use crate::literal::Literal;
 use crate::parsed::Item;
 use av_base::{List, Name};
 use av_net::{Drive, Step};
 
-impl<'t, 'a> Cursor<'t, 'a> {
+impl<'t, 'a> DesignCursor<'t, 'a> {
     // A widening for a target, and the end.
     fn widened(&mut self, target: Name) -> Result<Item, ReadError>
         ensures { Gives (λ x. (said_item x, views self.new.rest.now)) result (widened_at target (views self.old.rest.now)) }

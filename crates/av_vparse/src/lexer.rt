@@ -4,16 +4,16 @@ ghost use Rattle.std.specs.Prelude.{◌≡◌, ◌<◌, ◌≤◌, length};
 ghost use Rattle.av_base.specs.Tokens.{start};
 ghost use Rattle.av_vparse.specs.inner.Lexing.{views, GivesTokens, lexed_of};
 
-use crate::ParseFault;
+use crate::TextFault;
 use crate::scan::piece_at;
-use crate::token::Token;
-use av_base::{List, Piece, Place, ascii, moved, part};
-use av_net::TokenKind;
+use crate::token::DesignToken;
+use av_base::{Lexeme, List, Place, ascii, moved, part};
+use av_net::DesignTokenKind;
 use std::alloc::Global;
 
 /// The tokens of a text, in order, with `End` as the last of them, or `Byte` with the place of the first
 /// byte outside comments that begins no token.
-pub(crate) fn lex<'a>(alloc: Global, bytes: &'a [u8]) -> Result<List<Token<'a>>, ParseFault>
+pub(crate) fn lex<'a>(alloc: Global, bytes: &'a [u8]) -> Result<List<DesignToken<'a>>, TextFault>
     requires { length bytes.now < 4294967295 }
     ensures { GivesTokens result (lexed_of (length bytes.now) start bytes.now) }
 {
@@ -22,13 +22,13 @@ pub(crate) fn lex<'a>(alloc: Global, bytes: &'a [u8]) -> Result<List<Token<'a>>,
     let mut at = 0;
     while at < bytes.len() {
         match piece_at(bytes, at) {
-            Piece::Gap(len) => {
+            Lexeme::Gap(len) => {
                 place = moved(place, part(bytes, at, len));
                 at += len;
             }
-            Piece::Token(kind, len) => {
+            Lexeme::Token(kind, len) => {
                 let text = part(bytes, at, len);
-                found.push(Token {
+                found.push(DesignToken {
                     kind,
                     text: ascii(text),
                     place,
@@ -36,11 +36,11 @@ pub(crate) fn lex<'a>(alloc: Global, bytes: &'a [u8]) -> Result<List<Token<'a>>,
                 place = moved(place, text);
                 at += len;
             }
-            Piece::Bad => return Err(ParseFault::Byte(place)),
+            Lexeme::Bad => return Err(TextFault::Byte(place)),
         }
     }
-    found.push(Token {
-        kind: TokenKind::End,
+    found.push(DesignToken {
+        kind: DesignTokenKind::End,
         text: "",
         place,
     })?;

@@ -18,8 +18,8 @@ mod scan;
 mod symbols;
 mod token;
 
-pub use fault::ParseFault;
+pub use fault::TextFault;
 pub use laws::{at_most_one_text, text_or_fault};
 pub use literal::are_digits;
-pub use parsed::{Declaration, Instantiation, Item, Link, ModuleText, Parsed, Text};
+pub use parsed::{Instantiation, Item, ModuleText, Parsed, PortLink, SignalDeclaration, Text};
 pub use parsing::parse;

@@ -4,12 +4,12 @@ ghost use Rattle.std.specs.Prelude.{◌≡◌};
 ghost use Rattle.av_vparse.specs.inner.Lexing.{views};
 ghost use Rattle.av_vparse.specs.inner.Reading.{Gives, operand_at, symbol_at, order_at, signed_at, comparison_at, choice_at, alone_by, selection_at, selected_bit_at, widening_at, operation_by, operation_at};
 
-use crate::cursor::{Cursor, MOST_BIT};
+use crate::cursor::{DesignCursor, MOST_BIT};
 use crate::fault::ReadError;
 use crate::symbols::{order_of, symbol_of};
-use av_net::{Operand, Operation, Symbol, TokenKind};
+use av_net::{DesignTokenKind, Operand, Operation, Symbol};
 
-impl<'t, 'a> Cursor<'t, 'a> {
+impl<'t, 'a> DesignCursor<'t, 'a> {
     /// A name or a literal.
     #[tactic(auto, unfolding(crate::specs::inner::Reading::operand_at))]
     pub(crate) fn operand(&mut self) -> Result<Operand, ReadError>
@@ -32,7 +32,7 @@ impl<'t, 'a> Cursor<'t, 'a> {
         ensures { result ≡ symbol_at (views self.now.rest.now) }
     {
         match self.rest {
-            [first, ..] if first.kind != TokenKind::Name => symbol_of(first.text),
+            [first, ..] if first.kind != DesignTokenKind::Name => symbol_of(first.text),
             _ => None,
         }
     }
@@ -43,7 +43,9 @@ impl<'t, 'a> Cursor<'t, 'a> {
         ensures { Gives (λ x. (x, views self.new.rest.now)) result (order_at (views self.old.rest.now)) }
     {
         match self.rest {
-            [first, rest @ ..] if first.kind != TokenKind::Name => match order_of(first.text) {
+            [first, rest @ ..] if first.kind != DesignTokenKind::Name => match order_of(
+                first.text,
+            ) {
                 Some(symbol) => {
                     self.rest = rest;
                     Ok(symbol)

@@ -9,14 +9,14 @@ use av_net::{Drive, Operand, Port, Step};
 
 /// A declaration of the module's body.
 #[derive(Debug, Drop)]
-pub enum Declaration {
+pub enum SignalDeclaration {
     Wire(Port),
     Register(Port),
 }
 
 /// What is linked to a port of an instance.
 #[derive(Debug, Drop)]
-pub struct Link {
+pub struct PortLink {
     pub port: Name,
     pub operand: Operand,
 }
@@ -26,7 +26,7 @@ pub struct Link {
 pub struct Instantiation {
     pub kind: Name,
     pub name: Name,
-    pub links: List<Link>,
+    pub links: List<PortLink>,
 }
 
 /// An item of a module's body.
@@ -40,13 +40,13 @@ pub enum Item {
     Instance(Instantiation),
 }
 
-impl Declaration {
+impl SignalDeclaration {
     /// The port of the declaration.
     pub fn port(&self) -> &Port
         ensures { result.now ≡ declared_port (said_declaration self.now) }
     {
         match self {
-            Declaration::Wire(port) | Declaration::Register(port) => port,
+            SignalDeclaration::Wire(port) | SignalDeclaration::Register(port) => port,
         }
     }
 }
@@ -77,7 +77,7 @@ impl Header {
     ghost use Rattle.av_vparse.specs.Said.{said_module};
 
     /// The module with this header and body.
-    pub(crate) fn with(self, declarations: List<Declaration>, items: List<Item>) -> ModuleText
+    pub(crate) fn with(self, declarations: List<SignalDeclaration>, items: List<Item>) -> ModuleText
         ensures { said_module result ≡ with_body (said_header self) (map said_declaration declarations) (map said_item items) }
     {
         ModuleText {
@@ -96,7 +96,7 @@ pub struct ModuleText {
     pub name: Name,
     pub inputs: List<Port>,
     pub outputs: List<Port>,
-    pub declarations: List<Declaration>,
+    pub declarations: List<SignalDeclaration>,
     pub items: List<Item>,
 }
 

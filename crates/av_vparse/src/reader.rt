@@ -4,18 +4,18 @@ ghost use Rattle.av_vparse.specs.inner.Lexing.{views};
 ghost use Rattle.av_vparse.specs.inner.Reading.{Gives, closed_at, clocked_at, header_at, top_body_at, top_at, text_at, said_header};
 ghost use Rattle.av_vparse.specs.Said.{said_module, said};
 
-use crate::cursor::Cursor;
+use crate::cursor::DesignCursor;
 use crate::fault::ReadError;
 use crate::parsed::{Header, ModuleText, Text};
-use crate::token::Token;
+use crate::token::DesignToken;
 use std::alloc::Global;
 
 /// What a design text says, or the place of the first token that no text continues.
 #[tactic(auto, unfolding(crate::specs::inner::Reading::text_at))]
-pub(crate) fn read_text<'a>(alloc: Global, tokens: &[Token<'a>]) -> Result<Text, ReadError>
+pub(crate) fn read_text<'a>(alloc: Global, tokens: &[DesignToken<'a>]) -> Result<Text, ReadError>
     ensures { Gives said result (text_at (views tokens.now)) }
 {
-    let mut cursor = Cursor {
+    let mut cursor = DesignCursor {
         alloc,
         rest: tokens,
     };
@@ -25,7 +25,7 @@ pub(crate) fn read_text<'a>(alloc: Global, tokens: &[Token<'a>]) -> Result<Text,
     Ok(Text { kinds, top })
 }
 
-impl<'t, 'a> Cursor<'t, 'a> {
+impl<'t, 'a> DesignCursor<'t, 'a> {
     // The ports that each top has.
     #[tactic(auto, unfolding(crate::specs::inner::Reading::clocked_at))]
     fn clocked(&mut self) -> Result<(), ReadError>

@@ -4,16 +4,16 @@ ghost use Rattle.std.specs.Prelude.{◌≡◌, ◌<◌, ◌≤◌, ◌-◌, leng
 ghost use Rattle.av_base.specs.Reading.{FitsIn};
 ghost use Rattle.av_vparse.specs.inner.Scan.{is_single, is_pair, begins_pair, is_signed, tail_len, number_of, symbol_of, word_kind, token_of, piece_of};
 
-use av_base::{Piece, begins_comment, digits_len, is_blank, line_len, word_len};
-use av_net::{TokenKind, begins_name, is_keyword};
+use av_base::{Lexeme, begins_comment, digits_len, is_blank, line_len, word_len};
+use av_net::{DesignTokenKind, begins_name, is_keyword};
 
-fn word_kind(text: &[u8]) -> TokenKind
+fn word_kind(text: &[u8]) -> DesignTokenKind
     ensures { result ≡ word_kind text.now }
 {
     if is_keyword(text) {
-        TokenKind::Reserved
+        DesignTokenKind::Reserved
     } else {
-        TokenKind::Name
+        DesignTokenKind::Name
     }
 }
 
@@ -60,15 +60,15 @@ fn begins_pair(text: &[u8]) -> bool
 }
 
 #[tactic(auto, unfolding(crate::specs::inner::Scan::symbol_of))]
-fn symbol_of(first: u8, text: &[u8]) -> Piece<TokenKind>
+fn symbol_of(first: u8, text: &[u8]) -> Lexeme<DesignTokenKind>
     ensures { result ≡ symbol_of first text.now }
 {
     if begins_pair(text) {
-        Piece::Token(TokenKind::Symbol, 2)
+        Lexeme::Token(DesignTokenKind::Symbol, 2)
     } else if is_single(first) {
-        Piece::Token(TokenKind::Symbol, 1)
+        Lexeme::Token(DesignTokenKind::Symbol, 1)
     } else {
-        Piece::Bad
+        Lexeme::Bad
     }
 }
 
@@ -93,49 +93,49 @@ fn tail_len(text: &[u8]) -> usize
 }
 
 #[tactic(auto, unfolding(crate::specs::inner::Scan::number_of))]
-fn number_of(text: &[u8]) -> Piece<TokenKind>
+fn number_of(text: &[u8]) -> Lexeme<DesignTokenKind>
     ensures { result ≡ number_of text.now }
 {
     let len = digits_len(text);
     let tail = tail_len(&text[len..]);
     if tail == 0 {
-        Piece::Token(TokenKind::Number, len)
+        Lexeme::Token(DesignTokenKind::Number, len)
     } else {
-        Piece::Token(TokenKind::Literal, len + tail)
+        Lexeme::Token(DesignTokenKind::Literal, len + tail)
     }
 }
 
 #[tactic(auto, unfolding(crate::specs::inner::Scan::token_of))]
-fn token_of(first: u8, text: &[u8]) -> Piece<TokenKind>
+fn token_of(first: u8, text: &[u8]) -> Lexeme<DesignTokenKind>
     ensures { result ≡ token_of first text.now }
 {
     if begins_name(first) {
         let len = word_len(text);
-        Piece::Token(word_kind(&text[..len]), len)
+        Lexeme::Token(word_kind(&text[..len]), len)
     } else if first.is_ascii_digit() {
         number_of(text)
     } else if is_signed(text) {
-        Piece::Token(TokenKind::System, 7)
+        Lexeme::Token(DesignTokenKind::System, 7)
     } else {
         symbol_of(first, text)
     }
 }
 
 #[tactic(auto, unfolding(av_base::specs::Reading::piece_by))]
-fn piece_of(first: u8, text: &[u8]) -> Piece<TokenKind>
+fn piece_of(first: u8, text: &[u8]) -> Lexeme<DesignTokenKind>
     ensures { result ≡ piece_of first text.now }
 {
     if is_blank(first) {
-        Piece::Gap(1)
+        Lexeme::Gap(1)
     } else if begins_comment(text, b'/') {
-        Piece::Gap(line_len(text))
+        Lexeme::Gap(line_len(text))
     } else {
         token_of(first, text)
     }
 }
 
 /// What stands at an index of a text.
-pub(crate) fn piece_at(text: &[u8], at: usize) -> Piece<TokenKind>
+pub(crate) fn piece_at(text: &[u8], at: usize) -> Lexeme<DesignTokenKind>
     requires { at < length text.now }
     ensures piece { result ≡ piece_of (slice_index text.now at) (drop at text.now) }
     ensures fits { FitsIn result (length text.now - at) }

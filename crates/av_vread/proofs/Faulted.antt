@@ -9,8 +9,8 @@ use Rattle.av_net.specs.Grammar.{Text}
 use Rattle.av_net.specs.Listed.{Line, lines_of, numbered, listing_lines, IsListing, IsBadLine}
 use Rattle.av_net.specs.Rows.{is_in, module_of, flat_text, twice_name, wrong_name, undriven_name, early_name, unsuited_name}
 use Rattle.av_net.specs.Designs.{Says, HasNoRow, Spells, IsSoundDesign}
-use Rattle.av_vparse.specs.declared.fault.ParseFault.{ParseFault}
-use Rattle.av_vparse.specs.declared.fault.ParseFault.TheVariants as parsing
+use Rattle.av_vparse.specs.declared.fault.TextFault.{TextFault}
+use Rattle.av_vparse.specs.declared.fault.TextFault.TheVariants as parsing
 use Rattle.av_vparse.specs.Parsing.{IsFault as IsTextFault}
 use Rattle.av_vparse.proofs.Answered.{one_said, said_or_faulty, said_apart, one_fault}
 use Rattle.av_vread.specs.declared.fault.VFault.{VFault}
@@ -156,7 +156,7 @@ module _ (bytes : List ℕ) where
   -- ---- what checking bytes gives: what is said, checked, or the fault of the text
 
   abbrev pub Verdict : Checked → Type 0
-  Verdict r = ((x : Text) × (line : ℕ) × Says bytes x line × (checked_at bytes x line ≡ r)) ⊎ ((f : ParseFault) × IsTextFault bytes f × (r ≡ Err (fault_for f)))
+  Verdict r = ((x : Text) × (line : ℕ) × Says bytes x line × (checked_at bytes x line ≡ r)) ⊎ ((f : TextFault) × IsTextFault bytes f × (r ≡ Err (fault_for f)))
 
   -- there is one at most
   one_verdict : (r s : Checked) → Verdict r → Verdict s → r ≡ s
@@ -168,14 +168,14 @@ module _ (bytes : List ℕ) where
   one_verdict r s (inr a) (inr b) = a.2 ∙ ap (λ f. Err (fault_for f)) (one_fault bytes a.0 b.0 a.1 b.1) ∙ sym b.2
 
   -- a fault of the text is none of a design that is read
-  no_text : (read : Text × Listing) (f : ParseFault) → ◌≡◌ {A = Checked} (Ok read) (Err (fault_for f)) → ⊥
+  no_text : (read : Text × Listing) (f : TextFault) → ◌≡◌ {A = Checked} (Ok read) (Err (fault_for f)) → ⊥
   no_text read f e = cc
 
   pub said_ok : (read : Text × Listing) → Verdict (Ok read) → Said read
   said_ok read (inl a) = said_listing read a.0 a.1 (listing_of bytes a.0 a.1) a.2 refl a.3
   said_ok read (inr a) = absurd (no_text read a.0 a.2)
 
-  of_text : (f : ParseFault) → IsTextFault bytes f → IsFault bytes (fault_for f)
+  of_text : (f : TextFault) → IsTextFault bytes f → IsFault bytes (fault_for f)
   of_text (parsing.Byte p) h = h
   of_text (parsing.Syntax p) h = h
   of_text parsing.Memory h = absurd h
@@ -191,7 +191,7 @@ module _ (bytes : List ℕ) where
   row_answer f h =
       inl (h.said, h.line, h.says, ap (checked_listing h.said) (listing_given bytes h.said h.line h.says h.listing h.lists) ∙ ap (checked_row h.said h.listing) h.row)
 
-  text_answer : (f : ParseFault) → IsTextFault bytes f → Verdict (Err (fault_for f))
+  text_answer : (f : TextFault) → IsTextFault bytes f → Verdict (Err (fault_for f))
   text_answer f h = inr (f, h, refl)
 
   -- where a fault is the first
@@ -256,7 +256,7 @@ module _ (bytes : List ℕ) where
     | inr e ↦ inr (said_verdict a.said a.line (Err f) a.says e)
   ]
 
-  nothing_told : (f : ParseFault) → (f ≡ parsing.Memory) ⊎ IsTextFault bytes f → Told (Err (fault_for f))
+  nothing_told : (f : TextFault) → (f ≡ parsing.Memory) ⊎ IsTextFault bytes f → Told (Err (fault_for f))
   nothing_told f h = elim h [
     | inl e ↦ inl (ap fault_for e)
     | inr is ↦ inr (text_answer f is)

@@ -5,18 +5,18 @@ use Rattle.std.specs.List.{list_any}
 use Rattle.av_net.specs.declared.plan.CellKind.{CellKind}
 use Rattle.av_net.specs.Flat.{no_kind}
 use Rattle.av_net.specs.Names.{names_of}
-use Rattle.av_net.specs.Grammar.{Link, Instantiation, ModuleText, instance}
+use Rattle.av_net.specs.Grammar.{PortLink, Instantiation, ModuleText, instance}
 use Rattle.av_net.specs.Rows.{Among, is_in, first_from, first_some, kind_from, kind_or, kind_named, unlinked_in, is_early_link, reads_early}
 use Rattle.av_vnames.specs.Scoped.{Bytes}
 use Rattle.av_vparse.specs.declared.parsed.ModuleText.{ModuleText as FoundModule}
-use Rattle.av_vparse.specs.declared.parsed.Link.{Link as FoundLink}
+use Rattle.av_vparse.specs.declared.parsed.PortLink.{PortLink as FoundLink}
 use Rattle.av_vparse.specs.declared.parsed.Instantiation.{Instantiation as FoundInstance}
 use Rattle.av_vparse.specs.Said.{said_link, said_instance, said_module}
 use Rattle.av_base.proofs.Lists.{next_item, nothing_left}
 
 -- ---- no kind
 
-no_early : (wires earlier : Among) (links : List Link) → list_any (is_early_link wires earlier no_kind) links ≡ false
+no_early : (wires earlier : Among) (links : List PortLink) → list_any (is_early_link wires earlier no_kind) links ≡ false
 no_early wires earlier [] = refl
 no_early wires earlier (link ∷ links) = no_early wires earlier links
 

@@ -6,7 +6,7 @@ use Rattle.std.proofs.lemmas.List.Elements.{recursion_from_All, All-from_recursi
 use Rattle.av_base.specs.declared.place.Place.{Place}
 use Rattle.av_base.specs.declared.width.Width.{Width}
 use Rattle.av_base.specs.Tokens.{is_word_byte}
-use Rattle.av_net.specs.declared.token_kind.TokenKind.TheVariants as kind
+use Rattle.av_net.specs.declared.token_kind.DesignTokenKind.TheVariants as kind
 use Rattle.av_net.specs.declared.operation.Operand.{Operand}
 use Rattle.av_net.specs.declared.operation.Operation.{Operation}
 use Rattle.av_net.specs.declared.netlist.Port.{Port}
@@ -14,7 +14,7 @@ use Rattle.av_net.specs.declared.netlist.Drive.{Drive}
 use Rattle.av_net.specs.declared.netlist.Step.{Step}
 use Rattle.av_net.specs.Names.{names_of, wire_names, all_names}
 use Rattle.av_net.specs.Lexemes.{Token, begins_name, IsName, IsSpelled, AreTokens, end, blank, comment, token}
-use Rattle.av_net.specs.Grammar.{Text, ModuleText, Declaration, wire, register, Link, Instantiation, Item, drive, widening, step, instance, AreWords, no_word, next_word, IsNameAt, name, IsNumberAt, number, IsLiteralAt, literal, IsRange, no_range, range, IsPort, IsDeclaration, wire_declaration, register_declaration, IsOperand, named, constant, IsSigned, IsPart, IsWidening, IsOperation, plain, binary, signed, choice, selection, IsDrive, IsWideningDrive, IsEdge, IsStep, AreMany, no_more, one_more, IsLink, IsNextLink, IsInstantiation, IsItem, assignment, wide_assignment, at_an_edge, instantiation, IsKindInput, IsKindDeclaration, kind_wire, IsKindItem, kind_assignment, kind_wide_assignment, IsKind, IsTop, IsText}
+use Rattle.av_net.specs.Grammar.{Text, ModuleText, SignalDeclaration, wire, register, PortLink, Instantiation, Item, drive, widening, step, instance, AreWords, no_word, next_word, IsNameAt, name, IsNumberAt, number, IsLiteralAt, literal, IsRange, no_range, range, IsPort, IsDeclaration, wire_declaration, register_declaration, IsOperand, named, constant, IsSigned, IsPart, IsWidening, IsOperation, plain, binary, signed, choice, selection, IsDrive, IsWideningDrive, IsEdge, IsStep, AreMany, no_more, one_more, IsLink, IsNextLink, IsInstantiation, IsItem, assignment, wide_assignment, at_an_edge, instantiation, IsKindInput, IsKindDeclaration, kind_wire, IsKindItem, kind_assignment, kind_wide_assignment, IsKind, IsTop, IsText}
 use Rattle.av_net.specs.Rows.{wires_of, registers_in, module_of, declared_port}
 use Rattle.av_base.proofs.Spelled.{word_all}
 use Rattle.av_vread.proofs.Each.{all_map}
@@ -63,13 +63,13 @@ many_named Is P each (one_more {ts = ts} {a = a} {x = x} is many) n =
 abbrev HasName : Port → Type 0
 HasName port = IsName port.name
 
-abbrev IsDeclaredName : Declaration → Type 0
+abbrev IsDeclaredName : SignalDeclaration → Type 0
 IsDeclaredName d = IsName (declared_port d).name
 
 many_ports_named : {words : List (List ℕ)} {ts rest : List Token} {ports : List Port} → AreMany (IsPort words) ts rest ports → AreNamed ts → AllByRecursion HasName ports × AreNamed rest
 many_ports_named {words = words} many n = many_named (IsPort words) HasName (λ ts rest x p n. port_named p n) many n
 
-declaration_named : {ts rest : List Token} {d : Declaration} → IsDeclaration ts rest d → AreNamed ts → IsDeclaredName d × AreNamed rest
+declaration_named : {ts rest : List Token} {d : SignalDeclaration} → IsDeclaration ts rest d → AreNamed ts → IsDeclaredName d × AreNamed rest
 declaration_named (wire_declaration p s) n = let a = port_named p n in (a.0, words_named s a.1)
 declaration_named (register_declaration p s) n = let a = port_named p n in (a.0, words_named s a.1)
 
@@ -110,7 +110,7 @@ step_named s n =
     let reset = literal_named s.reset (words_named s.becomes (name_named s.register (edge_named s.at_edge n)).1) in
     words_named s.ends (operand_named s.next (words_named s.becomes_too (name_named s.again (words_named s.otherwise reset)).1))
 
-link_named : {ts rest : List Token} {link : Link} → IsLink ts rest link → AreNamed ts → Unit {0} × AreNamed rest
+link_named : {ts rest : List Token} {link : PortLink} → IsLink ts rest link → AreNamed ts → Unit {0} × AreNamed rest
 link_named l n = (tt, words_named l.closes (operand_named l.operand (words_named l.opens (name_named l.port (words_named l.dot n)).1)))
 
 instance_named : {ts rest : List Token} {x : Instantiation} → IsInstantiation ts rest x → AreNamed ts → IsName x.name × AreNamed rest
@@ -145,7 +145,7 @@ pub record IsModuleNamed (x : ModuleText) : Type 0 where
   pub outputs : AllByRecursion HasName x.outputs
   pub declared : AllByRecursion IsDeclaredName x.declarations
 
-kind_declaration_named : {ts rest : List Token} {d : Declaration} → IsKindDeclaration ts rest d → AreNamed ts → IsDeclaredName d × AreNamed rest
+kind_declaration_named : {ts rest : List Token} {d : SignalDeclaration} → IsKindDeclaration ts rest d → AreNamed ts → IsDeclaredName d × AreNamed rest
 kind_declaration_named (kind_wire p s) n = let a = port_named p n in (a.0, words_named s a.1)
 
 kind_named : {ts rest : List Token} {x : ModuleText} → IsKind ts rest x → AreNamed ts → IsModuleNamed x × AreNamed rest
@@ -189,12 +189,12 @@ HaveNames ports = All IsName (names_of ports)
 have_names : (ports : List Port) → AllByRecursion HasName ports → HaveNames ports
 have_names ports h = All-from_recursion IsName (names_of ports) (all_map IsName (λ (port : Port). port.name) ports h)
 
-wires_named : (ds : List Declaration) → AllByRecursion IsDeclaredName ds → AllByRecursion HasName (wires_of ds)
+wires_named : (ds : List SignalDeclaration) → AllByRecursion IsDeclaredName ds → AllByRecursion HasName (wires_of ds)
 wires_named [] h = tt
 wires_named (wire port ∷ ds) h = (h.0, wires_named ds h.1)
 wires_named (register port ∷ ds) h = wires_named ds h.1
 
-registers_named : (ds : List Declaration) → AllByRecursion IsDeclaredName ds → AllByRecursion HasName (registers_in ds)
+registers_named : (ds : List SignalDeclaration) → AllByRecursion IsDeclaredName ds → AllByRecursion HasName (registers_in ds)
 registers_named [] h = tt
 registers_named (wire port ∷ ds) h = registers_named ds h.1
 registers_named (register port ∷ ds) h = (h.0, registers_named ds h.1)

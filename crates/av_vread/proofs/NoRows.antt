@@ -28,7 +28,7 @@ use Rattle.av_net.specs.Sound.{IsInOrder, symbol_width, SuitsWidth, IsSound}
 use Rattle.av_net.specs.Texts.{written_width}
 use Rattle.av_net.specs.Flat.{kind_module, kind_of, instance_wires}
 use Rattle.av_net.specs.Plans.{instance_names, linked_names, part_names, AreInOrder, IsSoundTop, HasSoundModules}
-use Rattle.av_net.specs.Grammar.{ModuleText, wire, register, Link, Instantiation, Item, drive, widening, step, instance}
+use Rattle.av_net.specs.Grammar.{ModuleText, wire, register, PortLink, Instantiation, Item, drive, widening, step, instance}
 use Rattle.av_net.specs.Rows.{wires_of, registers_in, drives_of, steps_of, module_of, kinds_of, modules_of, declared_names, target_of, operands_of, is_in, first_some, first_from, first_repeated, Among, instance_of, instances_in, kind_for, driven_by_link, driven_by, driven_names, link_mentions, reads_early, is_early_link, of_module, declares, drives, first_again, item_mentions, mentions_of, twice_from, twice_name, wrong_operand, wrong_drive, wrong_in, wrong_in_module, unlinked_in, undriven_in_module, is_early, first_early, early_in_module, suits_width, selects_highest, suits, unsuited_in_module}
 use Rattle.av_net.specs.Designs.{HasNoRow}
 use Rattle.av_net.proofs.Distinct.{apart, front_distinct, rest_distinct}
@@ -99,7 +99,7 @@ first_instance kinds wires earlier y items late = passed (reads_early kinds wire
     passed test name later e = rw e refl
 
 -- links of an instance with another name
-none_linked : (u : List ℕ) (kind : CellKind) (v : List ℕ) (ls : List Link) → bytes_eq u v ≡ false → flat_map (linked_at u) (flat_map (link_mentions kind v) ls) ≡ []
+none_linked : (u : List ℕ) (kind : CellKind) (v : List ℕ) (ls : List PortLink) → bytes_eq u v ≡ false → flat_map (linked_at u) (flat_map (link_mentions kind v) ls) ≡ []
 none_linked u kind v [] other = refl
 none_linked u kind v (l ∷ ls) other =
     flat_map-append (linked_at u) (link_mentions kind v l) (flat_map (link_mentions kind v) ls)
@@ -132,7 +132,7 @@ modules_in kinds earlier x =
     none_driven [] = refl
     none_driven (name ∷ names) = none_driven names
 
-    none_links : (kind : CellKind) (v : List ℕ) (ls : List Link) → flat_map module_at (flat_map (link_mentions kind v) ls) ≡ []
+    none_links : (kind : CellKind) (v : List ℕ) (ls : List PortLink) → flat_map module_at (flat_map (link_mentions kind v) ls) ≡ []
     none_links kind v [] = refl
     none_links kind v (l ∷ ls) =
         flat_map-append module_at (link_mentions kind v l) (flat_map (link_mentions kind v) ls)

@@ -8,9 +8,9 @@ use Rattle.std.proofs.lemmas.List.{append-nil, length-map, length-take-le, map_p
 use Rattle.av_base.proofs.Lists.{same_default}
 use Rattle.av_net.specs.declared.plan.CellKind.{CellKind}
 use Rattle.av_net.specs.Flat.{no_kind, kind_of, part_wires, part_drives, instance_wires, instance_drives}
-use Rattle.av_net.specs.Grammar.{Link, Instantiation, instance}
+use Rattle.av_net.specs.Grammar.{PortLink, Instantiation, instance}
 use Rattle.av_net.specs.Rows.{kind_or, kind_for, kind_number, linked_to, instance_by, instance_of, instances_in}
-use Rattle.av_vparse.specs.declared.parsed.Link.{Link as FoundLink}
+use Rattle.av_vparse.specs.declared.parsed.PortLink.{PortLink as FoundLink}
 use Rattle.av_vparse.specs.Said.{said_link}
 use Rattle.av_vnames.specs.Numbered.{place_among, number_of}
 use Rattle.av_vread.specs.inner.Numbered.{place_of}
@@ -22,7 +22,7 @@ use Rattle.av_vread.proofs.KindTables.{taken_map}
 
 link_step : (link : FoundLink) (links : List FoundLink) (q : Bytes) (t : Bool) (a : Option ℕ) (n : ℕ) (at : FoundLink) → cond t (Some 0) (option_map suc a) ≡ Some n → at ≡ get_or (link ∷ links) n at
     → ((m : ℕ) → a ≡ Some m → at ≡ get_or links m at → linked_to (map said_link links) q ≡ Some at.operand)
-    → option_map (λ (l : Link). l.operand) (cond t (Some (said_link link)) (find (λ (l : Link). bytes_eq l.port q) (map said_link links))) ≡ Some at.operand
+    → option_map (λ (l : PortLink). l.operand) (cond t (Some (said_link link)) (find (λ (l : PortLink). bytes_eq l.port q) (map said_link links))) ≡ Some at.operand
 link_step link links q true a zero at e is ih = ap (λ (l : FoundLink). Some l.operand) (sym is)
 link_step link links q true a (suc n) at e is ih = absurd cc
 link_step link links q false None n at e is ih = absurd cc
@@ -33,30 +33,30 @@ pub link_there : (links : List FoundLink) (q : Bytes) (n : ℕ) (at : FoundLink)
 link_there [] q n at e is = absurd cc
 link_there (link ∷ links) q n at e is = link_step link links q (bytes_eq link.port q) (place_of q (map said_link links)) n at e is (λ m f here. link_there links q m at f here)
 
-no_link_step : (link : Link) (found : Option Link) (t : Bool) (a : Option ℕ) → cond t (Some 0) (option_map suc a) ≡ None → (a ≡ None → option_map (λ (l : Link). l.operand) found ≡ None)
-    → option_map (λ (l : Link). l.operand) (cond t (Some link) found) ≡ None
+no_link_step : (link : PortLink) (found : Option PortLink) (t : Bool) (a : Option ℕ) → cond t (Some 0) (option_map suc a) ≡ None → (a ≡ None → option_map (λ (l : PortLink). l.operand) found ≡ None)
+    → option_map (λ (l : PortLink). l.operand) (cond t (Some link) found) ≡ None
 no_link_step link found true a e ih = absurd cc
 no_link_step link found false None e ih = ih refl
 no_link_step link found false (Some m) e ih = absurd cc
 
-pub link_none : (links : List Link) (q : Bytes) → place_of q links ≡ None → linked_to links q ≡ None
+pub link_none : (links : List PortLink) (q : Bytes) → place_of q links ≡ None → linked_to links q ≡ None
 link_none [] q e = refl
 link_none (link ∷ links) q e = no_link_step link (find (λ l. bytes_eq l.port q) links) (bytes_eq link.port q) (place_of q links) e (λ f. link_none links q f)
 
 pub link_within : (links : List FoundLink) (q : Bytes) (n : ℕ) → place_of q (map said_link links) ≡ Some n → n < length links
 link_within links q n e =
-    let size : length (map (λ (l : Link). l.port) (map said_link links)) ≡ length links = length-map (map said_link links) (λ (l : Link). l.port) ∙ length-map links said_link in
-    subst (λ m. n < m) size (place_within (map (λ (l : Link). l.port) (map said_link links)) q n e)
+    let size : length (map (λ (l : PortLink). l.port) (map said_link links)) ≡ length links = length-map (map said_link links) (λ (l : PortLink). l.port) ∙ length-map links said_link in
+    subst (λ m. n < m) size (place_within (map (λ (l : PortLink). l.port) (map said_link links)) q n e)
 
 -- a link more of those that were gone over
 pub links_more : (links : List FoundLink) (i : ℕ) (link : FoundLink) (found found' : List (Bytes × ℕ)) (key : Bytes) → ((q : Bytes) → lookup (bytes_eq q) found ≡ place_of q (map said_link (take i links))) → i < length links → link ≡ get_or links i link
     → key ≡ link.port → found' ≡ (if is_some (lookup (bytes_eq key) found) then found else (found ++ (key, i) ∷ [])) → (q : Bytes) → lookup (bytes_eq q) found' ≡ place_of q (map said_link (take (i + 1) links))
 links_more links i link found found' key so lt is name put q =
-    let before : List Bytes = map (λ (l : Link). l.port) (map said_link (take i links)) in
+    let before : List Bytes = map (λ (l : PortLink). l.port) (map said_link (take i links)) in
     let taken : length (take i links) ≡ i = length-take-le i links (omega (arith, lt)) in
-    let size : i ≡ length before = sym (length-map (map said_link (take i links)) (λ (l : Link). l.port) ∙ length-map (take i links) said_link ∙ taken) in
+    let size : i ≡ length before = sym (length-map (map said_link (take i links)) (λ (l : PortLink). l.port) ∙ length-map (take i links) said_link ∙ taken) in
     more_places found found' before key i so size put q ∙ ap (λ k. place_among (before ++ k ∷ []) q) name
-    ∙ ap (λ names. place_among names q) (sym (map_push (λ (l : Link). l.port) (map said_link (take i links)) (said_link link)) ∙ ap (map (λ (l : Link). l.port)) (taken_map said_link links i link lt is))
+    ∙ ap (λ names. place_among names q) (sym (map_push (λ (l : PortLink). l.port) (map said_link (take i links)) (said_link link)) ∙ ap (map (λ (l : PortLink). l.port)) (taken_map said_link links i link lt is))
 
 -- ---- kinds
 

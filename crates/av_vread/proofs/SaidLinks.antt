@@ -18,7 +18,7 @@ use Rattle.av_net.specs.Meaning.{Widths, operand_width}
 use Rattle.av_net.specs.Names.{AreDistinct, names_of, IsAmong, width_in}
 use Rattle.av_net.specs.Flat.{kind_of}
 use Rattle.av_net.specs.Plans.{SuitPorts, IsPlaced}
-use Rattle.av_net.specs.Grammar.{Link, instance}
+use Rattle.av_net.specs.Grammar.{PortLink, instance}
 use Rattle.av_net.specs.Rows.{is_in, first_some, kind_named, kind_or, kind_for, is_input_of, is_output_of, driven_by_link, driven_by, wrong_operand, wrong_output, wrong_link, wrong_instance, unlinked_in, suits_port, suits}
 use Rattle.av_net.proofs.Distinct.{apart}
 use Rattle.av_net.proofs.Declared.{width_here}
@@ -29,7 +29,7 @@ use Rattle.av_vread.proofs.Each.{all_append}
 -- ---- links of some ports
 
 -- each of them is of such a port, with an operand of its width
-pub record IsPortLink (widths : Widths) (P : Operand → Type 0) (ports : List Port) (link : Link) : Type 0 where
+pub record IsPortLink (widths : Widths) (P : Operand → Type 0) (ports : List Port) (link : PortLink) : Type 0 where
   pub port : Port
   pub among : Contains ports port
   pub named : link.port ≡ port.name
@@ -76,7 +76,7 @@ module _ (kinds : List CellKind) (widths : Widths) (all wires : List (List ℕ))
   abbrev kind : CellKind
   kind = kind_of kinds i
 
-  abbrev links : List Link
+  abbrev links : List PortLink
   links = links_said kind.inputs i.inputs ++ links_said kind.outputs (map Name i.outputs)
 
   pub kind_there : kind_for kinds (instance_said kinds i) ≡ kind
@@ -88,19 +88,19 @@ module _ (kinds : List CellKind) (widths : Widths) (all wires : List (List ℕ))
   outs : AllByRecursion (IsPortLink widths (IsWire wires) kind.outputs) (links_said kind.outputs (map Name i.outputs))
   outs = port_links widths (IsWire wires) kind.outputs kind.outputs (map Name i.outputs) (λ port at. at) is.placed.outputs (wires_named wires i.outputs is.takes)
 
-  in_input : {P : Operand → Type 0} (link : Link) → IsPortLink widths P kind.inputs link → Contains (names_of kind.inputs) link.port
+  in_input : {P : Operand → Type 0} (link : PortLink) → IsPortLink widths P kind.inputs link → Contains (names_of kind.inputs) link.port
   in_input link l = subst (Contains (names_of kind.inputs)) (sym l.named) (among_map (λ (port : Port). port.name) kind.inputs l.port l.among)
 
-  in_output : {P : Operand → Type 0} (link : Link) → IsPortLink widths P kind.outputs link → Contains (names_of kind.outputs) link.port
+  in_output : {P : Operand → Type 0} (link : PortLink) → IsPortLink widths P kind.outputs link → Contains (names_of kind.outputs) link.port
   in_output link l = subst (Contains (names_of kind.outputs)) (sym l.named) (among_map (λ (port : Port). port.name) kind.outputs l.port l.among)
 
-  an_input : {P : Operand → Type 0} (link : Link) → IsPortLink widths P kind.inputs link → (is_input_of kind link.port ≡ true) × (is_output_of kind link.port ≡ false)
+  an_input : {P : Operand → Type 0} (link : PortLink) → IsPortLink widths P kind.inputs link → (is_input_of kind link.port ≡ true) × (is_output_of kind link.port ≡ false)
   an_input link l = (
     is_found link.port (names_of kind.inputs) (in_input link l),
     not_there link.port (names_of kind.outputs) (λ at. apart (names_of kind.inputs) (names_of kind.outputs) link.port is.ports (in_input link l) at),
   )
 
-  an_output : {P : Operand → Type 0} (link : Link) → IsPortLink widths P kind.outputs link → (is_input_of kind link.port ≡ false) × (is_output_of kind link.port ≡ true)
+  an_output : {P : Operand → Type 0} (link : PortLink) → IsPortLink widths P kind.outputs link → (is_input_of kind link.port ≡ false) × (is_output_of kind link.port ≡ true)
   an_output link l = (
     not_there link.port (names_of kind.inputs) (λ at. apart (names_of kind.inputs) (names_of kind.outputs) link.port is.ports at (in_output link l)),
     is_found link.port (names_of kind.outputs) (in_output link l),
@@ -108,7 +108,7 @@ module _ (kinds : List CellKind) (widths : Widths) (all wires : List (List ℕ))
 
   -- ---- what it drives
 
-  inputs_drive : (ls : List Link) → AllByRecursion (IsPortLink widths (IsAmong all) kind.inputs) ls → flat_map (driven_by_link kind) ls ≡ []
+  inputs_drive : (ls : List PortLink) → AllByRecursion (IsPortLink widths (IsAmong all) kind.inputs) ls → flat_map (driven_by_link kind) ls ≡ []
   inputs_drive [] h = refl
   inputs_drive (l ∷ ls) h = let e = (an_input l h.0).1 in rw e (inputs_drive ls h.1)
 
@@ -131,31 +131,31 @@ module _ (kinds : List CellKind) (widths : Widths) (all wires : List (List ℕ))
   -- the ports that it links
   pub links_ports : ports_in links ≡ names_of kind.inputs ++ names_of kind.outputs
   links_ports =
-      map-append (λ (link : Link). link.port) (links_said kind.inputs i.inputs) (links_said kind.outputs (map Name i.outputs))
+      map-append (λ (link : PortLink). link.port) (links_said kind.inputs i.inputs) (links_said kind.outputs (map Name i.outputs))
       ∙ ap (λ names. names ++ ports_in (links_said kind.outputs (map Name i.outputs))) (said_ports widths kind.inputs i.inputs is.placed.inputs)
       ∙ ap (λ names. names_of kind.inputs ++ names) (said_ports widths kind.outputs (map Name i.outputs) is.placed.outputs)
 
   -- ---- the rows
 
-  right_input : (link : Link) → IsPortLink widths (IsAmong all) kind.inputs link → wrong_link (is_in wires) (is_in all) kind link ≡ None
+  right_input : (link : PortLink) → IsPortLink widths (IsAmong all) kind.inputs link → wrong_link (is_in wires) (is_in all) kind link ≡ None
   right_input link l = let e = (an_input link l).0 in rw e (among_right link.operand l.holds)
     where
       among_right : (o : Operand) → IsAmong all o → wrong_operand (is_in all) o ≡ None
       among_right (Name name) at = let e = is_found name all at in rw e refl
       among_right (Literal width value) at = refl
 
-  right_output : (link : Link) → IsPortLink widths (IsWire wires) kind.outputs link → wrong_link (is_in wires) (is_in all) kind link ≡ None
+  right_output : (link : PortLink) → IsPortLink widths (IsWire wires) kind.outputs link → wrong_link (is_in wires) (is_in all) kind link ≡ None
   right_output link l = let e = an_output link l in rw (e.0, e.1) (wire_right link.operand l.holds)
     where
       wire_right : (o : Operand) → IsWire wires o → wrong_output (is_in wires) link.port o ≡ None
       wire_right (Name name) at = let e = is_found name wires at in rw e refl
       wire_right (Literal width value) at = absurd at
 
-  none_wrong : (ls : List Link) → AllByRecursion (λ l. wrong_link (is_in wires) (is_in all) kind l ≡ None) ls → first_some (wrong_link (is_in wires) (is_in all) kind) ls ≡ None
+  none_wrong : (ls : List PortLink) → AllByRecursion (λ l. wrong_link (is_in wires) (is_in all) kind l ≡ None) ls → first_some (wrong_link (is_in wires) (is_in all) kind) ls ≡ None
   none_wrong [] h = refl
   none_wrong (l ∷ ls) h = rw (h.0, none_wrong ls h.1) refl
 
-  each_as : {P Q : Link → Type 0} (ls : List Link) → ((l : Link) → P l → Q l) → AllByRecursion P ls → AllByRecursion Q ls
+  each_as : {P Q : PortLink → Type 0} (ls : List PortLink) → ((l : PortLink) → P l → Q l) → AllByRecursion P ls → AllByRecursion Q ls
   each_as [] f h = tt
   each_as (l ∷ ls) f h = (f l h.0, each_as ls f h.1)
 
@@ -180,7 +180,7 @@ module _ (kinds : List CellKind) (widths : Widths) (all wires : List (List ℕ))
   pub reads_late : (P : Operand → Bool) → AllByRecursion (λ o. P o ≡ false) i.inputs → list_any (λ link. is_input_of kind link.port && P link.operand) links ≡ false
   reads_late P late = joined (links_said kind.inputs i.inputs) (links_said kind.outputs (map Name i.outputs)) (on_inputs kind.inputs i.inputs late) (on_outputs (links_said kind.outputs (map Name i.outputs)) outs)
     where
-      joined : (xs ys : List Link) → list_any (λ link. is_input_of kind link.port && P link.operand) xs ≡ false → list_any (λ link. is_input_of kind link.port && P link.operand) ys ≡ false
+      joined : (xs ys : List PortLink) → list_any (λ link. is_input_of kind link.port && P link.operand) xs ≡ false → list_any (λ link. is_input_of kind link.port && P link.operand) ys ≡ false
           → list_any (λ link. is_input_of kind link.port && P link.operand) (xs ++ ys) ≡ false
       joined [] ys a b = b
       joined (x ∷ xs) ys a b = let z = neither (is_input_of kind x.port && P x.operand) (list_any (λ link. is_input_of kind link.port && P link.operand) xs) a in rw (z.0, joined xs ys z.1 b) refl
@@ -194,20 +194,20 @@ module _ (kinds : List CellKind) (widths : Widths) (all wires : List (List ℕ))
       on_inputs (port ∷ ports) [] h = refl
       on_inputs (port ∷ ports) (operand ∷ operands) h = rw (and_false (is_input_of kind port.name) (P operand) h.0, on_inputs ports operands h.1) refl
 
-      on_outputs : (ls : List Link) → AllByRecursion (IsPortLink widths (IsWire wires) kind.outputs) ls → list_any (λ link. is_input_of kind link.port && P link.operand) ls ≡ false
+      on_outputs : (ls : List PortLink) → AllByRecursion (IsPortLink widths (IsWire wires) kind.outputs) ls → list_any (λ link. is_input_of kind link.port && P link.operand) ls ≡ false
       on_outputs [] h = refl
       on_outputs (l ∷ ls) h = let e = (an_output l h.0).0 in rw (e, on_outputs ls h.1) refl
 
   -- ---- widths
 
-  suited_link : {P : Operand → Type 0} (some : List Port) (link : Link) → ((port : Port) → Contains some port → Contains (kind.inputs ++ kind.outputs) port) → IsPortLink widths P some link → not (suits_port widths (kind.inputs ++ kind.outputs) link) ≡ false
+  suited_link : {P : Operand → Type 0} (some : List Port) (link : PortLink) → ((port : Port) → Contains some port → Contains (kind.inputs ++ kind.outputs) port) → IsPortLink widths P some link → not (suits_port widths (kind.inputs ++ kind.outputs) link) ≡ false
   suited_link some link within l =
       let ports = kind.inputs ++ kind.outputs in
       let distinct : AreDistinct (names_of ports) = subst AreDistinct (sym (map-append (λ (port : Port). port.name) kind.inputs kind.outputs)) is.ports in
       let width : width_in ports link.port ≡ l.port.width.bits = ap (width_in ports) l.named ∙ width_here ports l.port distinct (within l.port l.among) in
       ap not (eq-eqb (operand_width widths link.operand) (width_in ports link.port) (l.width ∙ sym width))
 
-  none_any : (p : Link → Bool) (ls : List Link) → AllByRecursion (λ l. p l ≡ false) ls → list_any p ls ≡ false
+  none_any : (p : PortLink → Bool) (ls : List PortLink) → AllByRecursion (λ l. p l ≡ false) ls → list_any p ls ≡ false
   none_any p [] h = refl
   none_any p (l ∷ ls) h = rw (h.0, none_any p ls h.1) refl
 

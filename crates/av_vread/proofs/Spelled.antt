@@ -19,7 +19,7 @@ use Rattle.av_net.specs.Names.{width_in, declarations}
 use Rattle.av_net.specs.Texts.{written_width}
 use Rattle.av_net.specs.Flat.{kind_module, kind_of, no_kind}
 use Rattle.av_net.specs.Lexemes.{IsName}
-use Rattle.av_net.specs.Grammar.{Link, Instantiation}
+use Rattle.av_net.specs.Grammar.{PortLink, Instantiation}
 use Rattle.av_net.proofs.Said.{links_said, instance_said}
 use Rattle.av_vread.specs.SpelledParts.{IsOperandSpelled, IsPortSpelled, IsInstanceSpelled, IsKindSpelled}
 use Rattle.av_vread.proofs.Each.{all_append, all_front, all_back}
@@ -63,7 +63,7 @@ pub narrow : (m : Module) → AreNarrow (written_width m)
 narrow m name = narrow_in (m.inputs ++ m.outputs ++ m.wires ++ m.registers) name
 
 -- the port and the operand of a link
-pub record IsLinkSpelled (link : Link) : Type 0 where
+pub record IsLinkSpelled (link : PortLink) : Type 0 where
   pub port : IsName link.port
   pub operand : IsOperandSpelled link.operand
 

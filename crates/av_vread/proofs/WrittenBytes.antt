@@ -15,7 +15,7 @@ use Rattle.av_net.specs.declared.netlist.Drive.{Drive}
 use Rattle.av_net.specs.declared.netlist.Step.{Step}
 use Rattle.av_net.specs.declared.netlist.Module.{Module}
 use Rattle.av_net.specs.Names.{width_in}
-use Rattle.av_net.specs.Grammar.{Link, spelling}
+use Rattle.av_net.specs.Grammar.{PortLink, spelling}
 use Rattle.av_net.proofs.Said.{links_said, instance_said}
 use Rattle.av_net.proofs.Alone.{alone}
 use Rattle.av_net.specs.declared.design.Listing.{Listing}
@@ -176,7 +176,7 @@ link_bytes port o after ws =
     four a b c d e x = simp append_assoc refl
 
 -- links behind commas, of lists that are joined
-links_bytes : (ports : List Port) (operands : List Operand) (more : List Link) (texts : List (List ℕ)) (ws : List Written) → bytes_of (links_onto more ws) ≡ behind_commas texts ++ bytes_of ws
+links_bytes : (ports : List Port) (operands : List Operand) (more : List PortLink) (texts : List (List ℕ)) (ws : List Written) → bytes_of (links_onto more ws) ≡ behind_commas texts ++ bytes_of ws
     → bytes_of (links_onto (links_said ports operands ++ more) ws) ≡ behind_commas (link_texts ports operands ++ texts) ++ bytes_of ws
 links_bytes [] operands more texts ws h = h
 links_bytes (port ∷ ports) [] more texts ws h = h

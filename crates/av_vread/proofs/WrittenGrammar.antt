@@ -6,7 +6,7 @@ use Rattle.std.proofs.lemmas.List.Elements.{recursion_from_All}
 use Rattle.av_base.specs.declared.place.Place.{Place}
 use Rattle.av_base.specs.declared.width.Width.{Width}
 use Rattle.av_base.specs.Words.{IsWord}
-use Rattle.av_net.specs.declared.token_kind.TokenKind.TheVariants as kind
+use Rattle.av_net.specs.declared.token_kind.DesignTokenKind.TheVariants as kind
 use Rattle.av_net.specs.declared.operation.Operand.{Operand}
 use Rattle.av_net.specs.declared.operation.Operand.TheVariants as operand
 use Rattle.av_net.specs.declared.operation.Operation.{Operation}
@@ -23,7 +23,7 @@ use Rattle.av_net.specs.Sound.{ComparesByOrder}
 use Rattle.av_net.specs.Texts.{written_width}
 use Rattle.av_net.specs.Flat.{kind_module}
 use Rattle.av_net.specs.Lexemes.{Token}
-use Rattle.av_net.specs.Grammar.{wire, register, Link, Item, drive, widening, instance, AreWords, no_word, next_word, IsWordAt, IsNameAt, name, number, IsLiteral, literal, end, IsRange, range, IsPort, IsDeclaration, wire_declaration, register_declaration, IsPart, IsWidening, IsOperand, named, constant, spelling, IsSigned, IsOperation, plain, binary, signed, choice, selection, IsEdge, AreMany, no_more, one_more, IsLink, IsNextLink, IsItem, at_an_edge, instantiation, IsKindInput, IsKindDeclaration, kind_wire, IsKindItem, kind_assignment, kind_wide_assignment, IsClockFirst, IsKind, IsClocked, IsTop, IsText}
+use Rattle.av_net.specs.Grammar.{wire, register, PortLink, Item, drive, widening, instance, AreWords, no_word, next_word, IsWordAt, IsNameAt, name, number, IsLiteral, literal, end, IsRange, range, IsPort, IsDeclaration, wire_declaration, register_declaration, IsPart, IsWidening, IsOperand, named, constant, spelling, IsSigned, IsOperation, plain, binary, signed, choice, selection, IsEdge, AreMany, no_more, one_more, IsLink, IsNextLink, IsItem, at_an_edge, instantiation, IsKindInput, IsKindDeclaration, kind_wire, IsKindItem, kind_assignment, kind_wide_assignment, IsClockFirst, IsKind, IsClocked, IsTop, IsText}
 use Rattle.av_net.proofs.Said.{said_by, drive_said, kind_said, width_for, width_for_is, step_said, instance_said, top_said, plan_said}
 use Rattle.av_vread.specs.SpelledParts.{IsOperandSpelled, HasBitsSpelled, IsDriveSpelled, IsStepSpelled, IsInstanceSpelled, IsKindSpelled, IsPlanSpelled}
 use Rattle.av_vread.proofs.Numerals.{number_value}
@@ -323,7 +323,7 @@ steps_are p registers (s ∷ steps) ws h =
 
 -- ---- instances
 
-link_is : (p : Place) (link : Link) (ws : List Written) → IsLinkSpelled link → Then (λ ts rest. IsLink ts rest link) (tokens_from p (link_onto link [] ws)) ws
+link_is : (p : Place) (link : PortLink) (ws : List Written) → IsLinkSpelled link → Then (λ ts rest. IsLink ts rest link) (tokens_from p (link_onto link [] ws)) ws
 link_is p link ws h =
     let q = past (past (past p (part.symbol (codes ".") [])) (part.named link.port [])) (part.symbol (codes "(") []) in
     let r = past q (operand_part link.operand []) in
@@ -342,14 +342,14 @@ link_is p link ws h =
       };
     }
 
-links_are : (p : Place) (links : List Link) (ws : List Written) → AllByRecursion IsLinkSpelled links → Then (λ ts rest. AreMany IsNextLink ts rest links) (tokens_from p (links_onto links ws)) ws
+links_are : (p : Place) (links : List PortLink) (ws : List Written) → AllByRecursion IsLinkSpelled links → Then (λ ts rest. AreMany IsNextLink ts rest links) (tokens_from p (links_onto links ws)) ws
 links_are p [] ws h = record { place = p; is = no_more }
 links_are p (link ∷ links) ws h =
     let one = link_is (past p (part.symbol (codes ",") (codes " "))) link (links_onto links ws) h.0 in
     let more = links_are one.place links ws h.1 in
     record { place = more.place; is = one_more (record { a = _; comma = next_word no_symbol refl no_word; linked = one.is }) more.is }
 
-instance_with : (p : Place) (kind called : List ℕ) (first : Link) (later : List Link) (ws : List Written) → IsLinkSpelled first → AllByRecursion IsLinkSpelled later
+instance_with : (p : Place) (kind called : List ℕ) (first : PortLink) (later : List PortLink) (ws : List Written) → IsLinkSpelled first → AllByRecursion IsLinkSpelled later
     → Then (λ ts rest. IsItem ts rest (instance (record { kind = kind; name = called; links = first ∷ later }))) (tokens_from p (instance_onto (record { kind = kind; name = called; links = first ∷ later }) ws)) ws
 instance_with p kind called first later ws h k =
     let q = past (past (past p (part.kind_part kind)) (part.named called (codes " "))) (part.symbol (codes "(") []) in
@@ -375,7 +375,7 @@ instance_with p kind called first later ws h k =
       });
     }
 
-instance_is : (p : Place) (kind called : List ℕ) (links : List Link) (ws : List Written) → AllByRecursion IsLinkSpelled links → 1 ≤ length links
+instance_is : (p : Place) (kind called : List ℕ) (links : List PortLink) (ws : List Written) → AllByRecursion IsLinkSpelled links → 1 ≤ length links
     → Then (λ ts rest. IsItem ts rest (instance (record { kind = kind; name = called; links = links }))) (tokens_from p (instance_onto (record { kind = kind; name = called; links = links }) ws)) ws
 instance_is p kind called [] ws h some = absurd (omega arith)
 instance_is p kind called (first ∷ later) ws h some = instance_with p kind called first later ws h.0 h.1

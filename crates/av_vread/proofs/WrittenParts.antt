@@ -1,7 +1,7 @@
 -- A plan as tokens with the blanks around them. A design is a plan without kinds.
 use Rattle.std.proofs.Common.{ℕ, ◌-◌, List, [], ◌∷◌, ◌++◌}
 use Rattle.std.specs.Prelude.{codes, decimal}
-use Rattle.av_net.specs.declared.token_kind.TokenKind.TheVariants as kind
+use Rattle.av_net.specs.declared.token_kind.DesignTokenKind.TheVariants as kind
 use Rattle.av_net.specs.declared.operation.Operand.{Operand}
 use Rattle.av_net.specs.declared.operation.Operand.TheVariants as operand
 use Rattle.av_net.specs.declared.operation.Operation.{Operation}
@@ -18,7 +18,7 @@ use Rattle.av_net.specs.declared.plan.Plan.{Plan}
 use Rattle.av_net.specs.Meaning.{Widths}
 use Rattle.av_net.specs.Texts.{written_width}
 use Rattle.av_net.specs.Flat.{kind_module}
-use Rattle.av_net.specs.Grammar.{Link, Instantiation, spelling}
+use Rattle.av_net.specs.Grammar.{PortLink, Instantiation, spelling}
 use Rattle.av_net.proofs.Said.{instance_said}
 use Rattle.av_vparse.proofs.Spaced.{Written}
 
@@ -126,16 +126,16 @@ steps_onto registers (s ∷ steps) rest = step_onto (width_in registers s.regist
 
 -- ---- instances
 
-abbrev pub link_onto : Link → List ℕ → List Written → List Written
+abbrev pub link_onto : PortLink → List ℕ → List Written → List Written
 link_onto link after rest = symbol (codes ".") [] ∷ named link.port [] ∷ symbol (codes "(") [] ∷ operand_part link.operand [] ∷ symbol (codes ")") after ∷ rest
 
 -- each behind a comma
-abbrev pub links_onto : List Link → List Written → List Written
+abbrev pub links_onto : List PortLink → List Written → List Written
 links_onto [] rest = rest
 links_onto (link ∷ links) rest = symbol (codes ",") (codes " ") ∷ link_onto link [] (links_onto links rest)
 
 -- the first behind nothing
-abbrev pub all_links_onto : List Link → List Written → List Written
+abbrev pub all_links_onto : List PortLink → List Written → List Written
 all_links_onto [] rest = rest
 all_links_onto (link ∷ links) rest = link_onto link [] (links_onto links rest)
 

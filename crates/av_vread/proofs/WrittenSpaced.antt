@@ -6,7 +6,7 @@ use Rattle.std.proofs.lemmas.List.Elements.{All-nil, All-from_recursion, recursi
 use Rattle.av_base.specs.declared.width.Width.{Width}
 use Rattle.av_base.specs.Words.{IsWord}
 use Rattle.av_base.specs.Tokens.{is_word_byte, IsDigits}
-use Rattle.av_net.specs.declared.token_kind.TokenKind.TheVariants as kind
+use Rattle.av_net.specs.declared.token_kind.DesignTokenKind.TheVariants as kind
 use Rattle.av_net.specs.declared.operation.Symbol.{Symbol}
 use Rattle.av_net.specs.declared.operation.Symbol.TheVariants.{Add, Sub, Mul, And, Or, Equal, Unequal, Less, LessEqual, Greater, GreaterEqual}
 use Rattle.av_net.specs.declared.operation.Operand.{Operand}
@@ -19,7 +19,7 @@ use Rattle.av_net.specs.declared.netlist.Step.{Step}
 use Rattle.av_net.specs.Meaning.{Widths, EachOperand}
 use Rattle.av_net.specs.Names.{clk, rst, width_in}
 use Rattle.av_net.specs.Lexemes.{reserved_words, IsName}
-use Rattle.av_net.specs.Grammar.{Link, Instantiation, spelling}
+use Rattle.av_net.specs.Grammar.{PortLink, Instantiation, spelling}
 use Rattle.av_net.specs.Spelling.{is_reserved}
 use Rattle.av_net.specs.declared.plan.CellKind.{CellKind}
 use Rattle.av_net.specs.declared.plan.Instance.{Instance}
@@ -224,15 +224,15 @@ steps_spaced registers (t ∷ steps) ws w s = step_spaced registers t (steps_ont
 
 -- ---- instances
 
-link_spaced : (link : Link) (ws : List Written) → IsLinkSpelled link → AreSpaced ws → AreSpaced (link_onto link [] ws)
+link_spaced : (link : PortLink) (ws : List Written) → IsLinkSpelled link → AreSpaced ws → AreSpaced (link_onto link [] ws)
 link_spaced link ws l s =
     (tt, plain_next 46 _ refl, tt, (tt, name_next link.port _ l.port refl, tt, (tt, plain_next 40 _ refl, tt, operand_spaced link.operand [] (symbol (codes ")") [] ∷ ws) l.operand tt refl (tt, plain_next 41 _ refl, tt, s))))
 
-links_spaced : (links : List Link) (ws : List Written) → AllByRecursion IsLinkSpelled links → AreSpaced ws → AreSpaced (links_onto links ws)
+links_spaced : (links : List PortLink) (ws : List Written) → AllByRecursion IsLinkSpelled links → AreSpaced ws → AreSpaced (links_onto links ws)
 links_spaced [] ws l s = s
 links_spaced (link ∷ links) ws l s = (tt, plain_next 44 _ refl, one_blank, link_spaced link (links_onto links ws) l.0 (links_spaced links ws l.1 s))
 
-all_links_spaced : (links : List Link) (ws : List Written) → AllByRecursion IsLinkSpelled links → AreSpaced ws → AreSpaced (all_links_onto links ws)
+all_links_spaced : (links : List PortLink) (ws : List Written) → AllByRecursion IsLinkSpelled links → AreSpaced ws → AreSpaced (all_links_onto links ws)
 all_links_spaced [] ws l s = s
 all_links_spaced (link ∷ links) ws l s = link_spaced link (links_onto links ws) l.0 (links_spaced links ws l.1 s)
 

@@ -2,7 +2,7 @@ ghost use Rattle.std.specs.Prelude.{◌≡◌};
 ghost use Rattle.av_vread.specs.declared.fault.VFault.TheVariants as fault;
 
 use av_base::{Memory, Name, Place};
-use av_vparse::ParseFault;
+use av_vparse::TextFault;
 
 /// Why a text spells no design. Of several faults the first variant of this list is answered, and of one
 /// variant the first in the text.
@@ -40,13 +40,13 @@ impl VFault {
     ghost use Rattle.av_vread.specs.inner.Checked.{fault_for};
 
     /// The fault of the design for that of its text.
-    pub(crate) fn of(fault: ParseFault) -> VFault
+    pub(crate) fn of(fault: TextFault) -> VFault
         ensures { result ≡ fault_for fault }
     {
         match fault {
-            ParseFault::Byte(place) => VFault::VByte(place),
-            ParseFault::Syntax(place) => VFault::VSyntax(place),
-            ParseFault::Memory => VFault::Memory,
+            TextFault::Byte(place) => VFault::VByte(place),
+            TextFault::Syntax(place) => VFault::VSyntax(place),
+            TextFault::Memory => VFault::Memory,
         }
     }
 }

@@ -14,7 +14,7 @@ use Rattle.av_net.specs.Designs.{HasSpelling}
 use Rattle.av_net.specs.Sound.{IsSound}
 use Rattle.av_clock.specs.Seen.{Seen, carried}
 use Rattle.av_data.specs.declared.stimulus.Stimulus.{Stimulus}
-use Rattle.av_wave.specs.declared.run.Prepared.{Prepared}
+use Rattle.av_wave.specs.declared.run.PreparedRun.{PreparedRun}
 use Rattle.av_wave.specs.Simulated.{header_ports, port_words}
 use Rattle.av_wave.specs.Recorded.{IsFor}
 use Rattle.av_wave.specs.Clocking.{ForRuns, AreLeft, ArePresented, AreWires}
@@ -30,7 +30,7 @@ use Rattle.av_wave.proofs.Capturing.{header_apart, header_spelled, starts_captur
 use Rattle.av_wave.proofs.News.{MayTell, cycle_tells, news_lines, cycle_news, cycle_text}
 
 -- c cycles were put, by lines that tell of a part of a wave, and the registers have the words of the next one
-pub record IsDumping (m : Module) (s : Stimulus) (c : ℕ) (parts : Prepared) (next : ℕ) (sink sink' : SinkState) (old new : Draft) : Type 0 where
+pub record IsDumping (m : Module) (s : Stimulus) (c : ℕ) (parts : PreparedRun) (next : ℕ) (sink sink' : SinkState) (old new : Draft) : Type 0 where
   pub prepared : IsPrepared m parts
   pub part : Part
   pub lines : List (List ℕ)
@@ -53,7 +53,7 @@ zeros_has m before is =
     let n : ℕ = length (header_ports m) in
     words_first m.name (header_ports m) before (ap length is ∙ length-replicate n 0) (λ k lt. ap (λ (ws : List ℕ). slice_index ws k) is ∙ get_or-replicate n k 0 0 lt)
 
-pub starts_dumping : (m : Module) (s : Stimulus) (parts' : Prepared) {sink sink' sink'' : SinkState} {old mid new : Draft} (ports : List Port) → IsSound m → HasSpelling m → IsFor m.inputs s → IsPrepared m parts'
+pub starts_dumping : (m : Module) (s : Stimulus) (parts' : PreparedRun) {sink sink' sink'' : SinkState} {old mid new : Draft} (ports : List Port) → IsSound m → HasSpelling m → IsFor m.inputs s → IsPrepared m parts'
     → ForRuns m s (λ run. 0 < s.cycles → Agree (names_of m.registers) (carried parts'.clock) (run.in_cycle 0)) → parts'.before ≡ replicate (length (header_ports m)) 0 → ports ≡ header_ports m
     → Puts sink sink' old mid (joined (head_lines m.name ports)) → Puts sink' sink'' mid new (time_line 0) → IsDumping m s 0 parts' 0 sink sink'' old new
 starts_dumping m s parts' ports sound spelled for prepared registers before are head time =
@@ -81,7 +81,7 @@ pub record IsShown (m : Module) (s : Stimulus) (c inputs : ℕ) (clock seen seen
   pub given : Agree (given_names seen'.of) (carried seen) (carried seen')
   pub shown : words' ≡ port_words (carried seen') (header_ports seen'.of)
 
-module _ (m : Module) (s : Stimulus) (c : ℕ) (parts : Prepared) (next : ℕ) (sink sink' : SinkState) (old mid : Draft) (so_far : IsDumping m s c parts next sink sink' old mid)
+module _ (m : Module) (s : Stimulus) (c : ℕ) (parts : PreparedRun) (next : ℕ) (sink sink' : SinkState) (old mid : Draft) (so_far : IsDumping m s c parts next sink sink' old mid)
     (for : IsFor m.inputs s) (lt : c < s.cycles) (seen seen' : Seen) (words words' : List ℕ) (shows : IsShown m s c parts.inputs parts.clock seen seen' words words') where
   shown : words' ≡ port_words (carried seen') (header_ports m)
   shown = shown_here m seen' words' (shows.of' ∙ shows.of ∙ so_far.prepared.clock) shows.shown
@@ -102,7 +102,7 @@ module _ (m : Module) (s : Stimulus) (c : ℕ) (parts : Prepared) (next : ℕ) (
       }
 
   -- the cycle is put, and the clock goes on
-  pub dumps_on : (clock' : Seen) (parts' : Prepared) (next' : ℕ) {sink'' sink''' : SinkState} {late new : Draft} (ports : List Port) (before noted : List ℕ) → parts'.clock ≡ clock' → parts'.ports ≡ parts.ports → parts'.wires ≡ parts.wires
+  pub dumps_on : (clock' : Seen) (parts' : PreparedRun) (next' : ℕ) {sink'' sink''' : SinkState} {late new : Draft} (ports : List Port) (before noted : List ℕ) → parts'.clock ≡ clock' → parts'.ports ≡ parts.ports → parts'.wires ≡ parts.wires
       → parts'.inputs ≡ parts.inputs → parts'.words ≡ parts.before → parts'.before ≡ words' → ports ≡ parts.ports → before ≡ parts.before → noted ≡ words' → clock'.of ≡ seen'.of → Edge clock'.of false (carried seen') (carried clock')
       → AreLeft seen.of.inputs s.values (c + 1) 0 (drop next' s.values) → next' ≤ length s.values
       → Puts sink' sink'' mid late (joined (news_lines ports c before noted (length noted))) → Puts sink'' sink''' late new (time_line (c + 1)) → IsDumping m s (c + 1) parts' next' sink sink''' old new
@@ -150,7 +150,7 @@ module _ (m : Module) (s : Stimulus) (c : ℕ) (parts : Prepared) (next : ℕ) (
 
 -- ---- the whole run
 
-pub dumped : {m : Module} {s : Stimulus} {c : ℕ} {parts : Prepared} {next : ℕ} {sink sink' : SinkState} {old new : Draft} → IsDumping m s c parts next sink sink' old new → c ≡ s.cycles → PutsDump m s sink sink' old new
+pub dumped : {m : Module} {s : Stimulus} {c : ℕ} {parts : PreparedRun} {next : ℕ} {sink sink' : SinkState} {old new : Draft} → IsDumping m s c parts next sink sink' old new → c ≡ s.cycles → PutsDump m s sink sink' old new
 dumped {m = m} {s = s} {c = c} {parts = parts} {next = next} so_far all = record {
   wave = wave_of so_far.part;
   captured = captured m s c parts.clock parts.words so_far.part next (wave_of so_far.part) so_far.prepared.sound so_far.tells.part so_far.capturing all refl;

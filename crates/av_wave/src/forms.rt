@@ -15,7 +15,7 @@ use itoa::Buffer;
 
 /// A port that a line declares.
 #[derive(Clone, Copy)]
-pub(crate) struct Declaration<'a> {
+pub(crate) struct PortDeclaration<'a> {
     pub(crate) width: Width,
     pub(crate) name: &'a [u8],
 }
@@ -45,14 +45,14 @@ pub(crate) fn scope_name(line: &[u8]) -> Option<&[u8]>
 }
 
 /// The port on the line that declares the one with this number.
-pub(crate) fn declared(line: &[u8], number: u32) -> Option<Declaration<'_>>
+pub(crate) fn declared(line: &[u8], number: u32) -> Option<PortDeclaration<'_>>
     ensures some { IfSome result (λ found. IsName found.name.now × (line.now ≡ port_line number (record { name = found.name.now; width = found.width }))) }
     ensures none { IfNone result ((port : AnyPort) → IsName port.name → line.now ≡ port_line number port → ⊥) }
 {
     let (width, text) = width_in(behind(line, b"$var wire ".as_slice())?)?;
     let text = behind(text, Code::new(number).as_bytes())?;
     let name = name_in(behind(text, b" ".as_slice())?)?;
-    Some(Declaration { width, name })
+    Some(PortDeclaration { width, name })
 }
 
 // Whether a text is these digits and the end of a line.

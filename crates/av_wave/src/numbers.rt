@@ -11,18 +11,18 @@ use av_base::{Width, digits_len};
 
 // The digits that a text begins with, and what stands behind them and a blank.
 #[derive(Clone, Copy)]
-struct Parts<'a> {
+struct LeadingDigits<'a> {
     digits: &'a [u8],
     rest: &'a [u8],
 }
 
-fn parted(text: &[u8]) -> Option<Parts<'_>>
+fn parted(text: &[u8]) -> Option<LeadingDigits<'_>>
     ensures some { IfSome result (λ parts. AreDigits parts.digits.now × (text.now ≡ parts.digits.now ++ 32 ∷ parts.rest.now)) }
     ensures none { IfNone result ((digits rest : List ℕ) → AreDigits digits → text.now ≡ digits ++ 32 ∷ rest → ⊥) }
 {
     let len = digits_len(text);
     let rest = behind(&text[len..], b" ".as_slice())?;
-    Some(Parts {
+    Some(LeadingDigits {
         digits: &text[..len],
         rest,
     })

@@ -23,7 +23,7 @@ use std::mem;
 // A clocked module, and all that is needed to write its run: its ports in the order of the header, the places of the drives of its
 // outputs, the words of the ports in this cycle and in the one before, and the number of input ports.
 #[derive(Drop)]
-struct Prepared<'a> {
+struct PreparedRun<'a> {
     clock: Clock<'a>,
     ports: List<Port>,
     wires: List<u32>,
@@ -59,7 +59,7 @@ pub fn write_run<K: Sink>(
 }
 
 // Takes all the memory that clocking the module and telling its words takes.
-fn make_ready<'a>(alloc: Global, of: &'a Module) -> Result<Prepared<'a>, Memory>
+fn make_ready<'a>(alloc: Global, of: &'a Module) -> Result<PreparedRun<'a>, Memory>
     requires { IsSound of.now }
     ensures parts { IfOk result (λ parts. IsPrepared of.now parts) }
     ensures before { IfOk result (λ parts. parts.before ≡ replicate (length (header_ports of.now)) 0) }
@@ -68,7 +68,7 @@ fn make_ready<'a>(alloc: Global, of: &'a Module) -> Result<Prepared<'a>, Memory>
     let words = zeros(alloc, ports.len())?;
     let before = zeros(alloc, ports.len())?;
     let wires = wires(alloc, of)?;
-    Ok(Prepared {
+    Ok(PreparedRun {
         clock: Clock::new(alloc, of)?,
         ports,
         wires,
@@ -82,7 +82,7 @@ fn make_ready<'a>(alloc: Global, of: &'a Module) -> Result<Prepared<'a>, Memory>
 fn write_dump<K: Sink>(
     of: &Module,
     stimulus: &Stimulus,
-    mut parts: Prepared<'_>,
+    mut parts: PreparedRun<'_>,
     sink: &mut K,
 ) -> Result<(), WriteFault>
     requires spelled { HasSpelling of.now }
@@ -105,7 +105,7 @@ fn put_run<K: Sink>(
     sink: &mut K,
     of: &Module,
     stimulus: &Stimulus,
-    parts: &mut Prepared<'_>,
+    parts: &mut PreparedRun<'_>,
 )
     requires spelled { HasSpelling of.now }
     requires stimulus { IsFor of.now.inputs stimulus.now }

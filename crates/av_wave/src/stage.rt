@@ -18,12 +18,12 @@ use std::marker::Model;
 
 /// The name of the module, and the ports that are declared so far.
 #[derive(Drop)]
-pub(crate) struct Header {
+pub(crate) struct DumpHeader {
     name: Name,
     ports: List<Port>,
 }
 
-impl Model for Header {
+impl Model for DumpHeader {
     ghost use Rattle.av_wave.specs.inner.Heads.{Head, IsHead};
 
     ghost Value = { Head };
@@ -38,9 +38,9 @@ impl Model for Header {
 pub(crate) enum Stage {
     Timescale,
     Scope,
-    Ports(Header),
-    Definitions(Header),
-    Start(Header),
+    Ports(DumpHeader),
+    Definitions(DumpHeader),
+    Start(DumpHeader),
     Cycles(Recorder),
 }
 
@@ -102,13 +102,13 @@ fn open(alloc: Global, line: &[u8]) -> Result<Option<Stage>, Memory>
     let Some(name) = scope_name(line) else {
         return Ok(None);
     };
-    Ok(Some(Stage::Ports(Header {
+    Ok(Some(Stage::Ports(DumpHeader {
         name: Name::from_ascii(alloc, name)?,
         ports: List::new(alloc),
     })))
 }
 
-impl Header {
+impl DumpHeader {
     // Takes the line of a port, or the one behind the last port.
     fn take<'a>(
         self,
@@ -164,7 +164,7 @@ impl Header {
     }
 }
 
-fn after_definitions(header: Header, line: &[u8]) -> Option<Stage>
+fn after_definitions(header: DumpHeader, line: &[u8]) -> Option<Stage>
     ensures { Turns (stage.Definitions header) line.now (Ok result) }
 {
     if line == b"$enddefinitions $end\n".as_slice() {

@@ -39,7 +39,7 @@ fn serial_form(alloc: Global, text: &str, n: i64) -> Result<Flat, Fail> {
 }
 
 /// A text with N, its variables where they are told, points of variables, and rows.
-struct Form {
+struct TextCase {
     text: &'static str,
     n: i64,
     variables: &'static str,
@@ -80,7 +80,12 @@ fn assert_row(rt: &impl Abort, alloc: Global, serial: &Flat, row: &Row) -> Resul
     Ok(())
 }
 
-fn assert_serial(rt: &impl Abort, alloc: Global, form: &Form, serial: &Flat) -> Result<(), Fail> {
+fn assert_serial(
+    rt: &impl Abort,
+    alloc: Global,
+    form: &TextCase,
+    serial: &Flat,
+) -> Result<(), Fail> {
     if !form.variables.is_empty() {
         assert_variables(rt, alloc, serial, form.variables)?;
     }
@@ -93,12 +98,12 @@ fn assert_serial(rt: &impl Abort, alloc: Global, form: &Form, serial: &Flat) -> 
     Ok(())
 }
 
-fn assert_form(rt: &impl Abort, alloc: Global, form: &Form) -> Result<(), Fail> {
+fn assert_form(rt: &impl Abort, alloc: Global, form: &TextCase) -> Result<(), Fail> {
     let serial = serial_form(alloc, form.text, form.n)?;
     assert_serial(rt, alloc, form, &serial)
 }
 
-const OF_PRODUCT: Form = Form {
+const OF_PRODUCT: TextCase = TextCase {
     text: MATRIX_PRODUCT,
     n: 2,
     variables: "input A, input B, output C, partial C#1",
@@ -119,7 +124,7 @@ fn the_product_of_matrices(rt: HostRuntime) -> Result<(), Fail> {
     assert_form(&rt, rt.alloc(), &OF_PRODUCT)
 }
 
-const OF_CONVOLUTION: Form = Form {
+const OF_CONVOLUTION: TextCase = TextCase {
     text: CONVOLUTION,
     n: 0,
     variables: "input W, input X, output Y, partial Y#1",
@@ -137,7 +142,7 @@ fn the_convolution(rt: HostRuntime) -> Result<(), Fail> {
     assert_form(&rt, rt.alloc(), &OF_CONVOLUTION)
 }
 
-const OF_FORWARD: Form = Form {
+const OF_FORWARD: TextCase = TextCase {
     text: FORWARD,
     n: 3,
     variables: "input L, input b, output x, partial x#1",
@@ -156,7 +161,7 @@ fn forward_substitution(rt: HostRuntime) -> Result<(), Fail> {
     assert_form(&rt, rt.alloc(), &OF_FORWARD)
 }
 
-const OF_SUMS: Form = Form {
+const OF_SUMS: TextCase = TextCase {
     text: SUMS,
     n: 0,
     variables: "input X, output P",
@@ -169,7 +174,7 @@ fn running_sums_have_no_reduction(rt: HostRuntime) -> Result<(), Fail> {
     assert_form(&rt, rt.alloc(), &OF_SUMS)
 }
 
-const OF_LEAST: Form = Form {
+const OF_LEAST: TextCase = TextCase {
     text: LEAST,
     n: 0,
     variables: "",
@@ -188,7 +193,7 @@ fn the_least_of_none_is_the_identity(rt: HostRuntime) -> Result<(), Fail> {
     assert_form(&rt, rt.alloc(), &OF_LEAST)
 }
 
-const OF_NESTED: Form = Form {
+const OF_NESTED: TextCase = TextCase {
     text: NESTED,
     n: 0,
     variables: "input A, output Y, partial Y#1, partial Y#2",
@@ -214,7 +219,7 @@ fn outer_before_inner_and_none_without_a_point(rt: HostRuntime) -> Result<(), Fa
     assert_form(&rt, rt.alloc(), &OF_NESTED)
 }
 
-const OF_TIES: Form = Form {
+const OF_TIES: TextCase = TextCase {
     text: TIES,
     n: 0,
     variables: "",
@@ -234,7 +239,7 @@ fn equal_bounds_are_read_once(rt: HostRuntime) -> Result<(), Fail> {
     assert_form(&rt, rt.alloc(), &OF_TIES)
 }
 
-const OF_GAP: Form = Form {
+const OF_GAP: TextCase = TextCase {
     text: GAP,
     n: 0,
     variables: "",
@@ -254,7 +259,7 @@ fn an_empty_fibre_between_others(rt: HostRuntime) -> Result<(), Fail> {
     assert_form(&rt, rt.alloc(), &OF_GAP)
 }
 
-const OF_SEVERAL: Form = Form {
+const OF_SEVERAL: TextCase = TextCase {
     text: SEVERAL,
     n: 0,
     variables: "input X, output Y, local s, partial Y#1, partial Y#2, partial s#1",
@@ -276,7 +281,7 @@ fn each_equation_numbers_its_own_chains(rt: HostRuntime) -> Result<(), Fail> {
     assert_form(&rt, rt.alloc(), &OF_SEVERAL)
 }
 
-const OF_LARGEST_BOX: Form = Form {
+const OF_LARGEST_BOX: TextCase = TextCase {
     text: LARGEST_BOX,
     n: 0,
     variables: "",

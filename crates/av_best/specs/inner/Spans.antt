@@ -7,10 +7,10 @@ use Rattle.av_flat.specs.Trees.{FlatSystem}
 use Rattle.av_flat.specs.Nodes.{IsComputation}
 use Rattle.av_sched.specs.Offsets.{part}
 use Rattle.av_sched.specs.Arcs.{at}
-use Rattle.av_best.specs.declared.span.Span.{Span}
+use Rattle.av_best.specs.declared.span.PartSpan.{PartSpan}
 
 -- no value at a listed point is below the low one or above the high one, and both are taken there
-pub record IsSpanOver (points : List Point) (a : Point) (span : Span) : Type 0 where
+pub record IsSpanOver (points : List Point) (a : Point) (span : PartSpan) : Type 0 where
   pub low_below : All (λ z. span.low ≤ℤ dot a z) points
   pub low_taken : Any (λ z. dot a z ≡ span.low) points
   pub high_above : All (λ z. dot a z ≤ℤ span.high) points
@@ -19,7 +19,7 @@ pub record IsSpanOver (points : List Point) (a : Point) (span : Span) : Type 0 w
   pub high_small : unsigned_abs span.high ≤ 2 ^ 29
 
 -- the same of all computations of a node
-pub record IsSpanAt (s : FlatSystem) (n : ℕ) (a : Point) (span : Span) : Type 0 where
+pub record IsSpanAt (s : FlatSystem) (n : ℕ) (a : Point) (span : PartSpan) : Type 0 where
   pub low_below : (z : Point) → IsComputation s n z → span.low ≤ℤ dot a z
   pub low_point : Point
   pub low_is : IsComputation s n low_point
@@ -39,34 +39,34 @@ pub record ArePointsOf (s : FlatSystem) (n : ℕ) (points : List Point) : Type 0
   pub greatest : (a : List ℤ) (z : Point) → IsComputation s n z → Any (λ p. dot a z ≤ℤ dot a p) points
 
 -- the span of each part
-pub record AreSpansAt (s : FlatSystem) (n : ℕ) (parts : List Point) (spans : List Span) : Type 0 where
+pub record AreSpansAt (s : FlatSystem) (n : ℕ) (parts : List Point) (spans : List PartSpan) : Type 0 where
   pub one_each : length spans ≡ length parts
-  pub each : (i : ℕ) (d : Span) → i < length parts → IsSpanAt s n (slice_index_or parts i []) (slice_index_or spans i d)
+  pub each : (i : ℕ) (d : PartSpan) → i < length parts → IsSpanAt s n (slice_index_or parts i []) (slice_index_or spans i d)
 
 -- of the lists of the first k nodes
-pub record AreSpansTo (s : FlatSystem) (k : ℕ) (lists : List (List Point)) (spans : List (List Span)) : Type 0 where
+pub record AreSpansTo (s : FlatSystem) (k : ℕ) (lists : List (List Point)) (spans : List (List PartSpan)) : Type 0 where
   pub one_each : length spans ≡ k
   pub each : (j : ℕ) → j < k → AreSpansAt s j (slice_index_or lists j []) (slice_index_or spans j [])
 
 -- of the linear parts of the first k nodes
-pub record AreSpanned (s : FlatSystem) (k : ℕ) (linear : List Point) (spans : List Span) : Type 0 where
+pub record AreSpanned (s : FlatSystem) (k : ℕ) (linear : List Point) (spans : List PartSpan) : Type 0 where
   pub within : k ≤ length spans
-  pub each : (j : ℕ) (d : Span) → j < k → IsSpanAt s j (part linear j) (slice_index_or spans j d)
+  pub each : (j : ℕ) (d : PartSpan) → j < k → IsSpanAt s j (part linear j) (slice_index_or spans j d)
 
 -- the cycle of a node's last computation
-abbrev pub last_of : List ℤ → List Span → ℕ → Span → ℤ
+abbrev pub last_of : List ℤ → List PartSpan → ℕ → PartSpan → ℤ
 last_of offsets spans j d = at offsets j +ℤ (slice_index_or spans j d).high
 
 -- the least number that is above the last cycles of the first k nodes; it is 0 or one more than one of them
-pub record IsLeastAbove (offsets : List ℤ) (spans : List Span) (k m : ℕ) : Type 0 where
-  pub above : (j : ℕ) (d : Span) → j < k → last_of offsets spans j d <ℤ pos m
-  pub reached : (m ≡ 0) ⊎ ((j : ℕ) × (j < k) × ((d : Span) → last_of offsets spans j d +ℤ pos 1 ≡ pos m))
+pub record IsLeastAbove (offsets : List ℤ) (spans : List PartSpan) (k m : ℕ) : Type 0 where
+  pub above : (j : ℕ) (d : PartSpan) → j < k → last_of offsets spans j d <ℤ pos m
+  pub reached : (m ≡ 0) ⊎ ((j : ℕ) × (j < k) × ((d : PartSpan) → last_of offsets spans j d +ℤ pos 1 ≡ pos m))
 
 -- the spans of the first k nodes are of small numbers
-abbrev pub AreSmallSpans : ℕ → List Span → Type 0
-AreSmallSpans k spans = (j : ℕ) (d : Span) → j < k → (unsigned_abs (slice_index_or spans j d).low ≤ 2 ^ 29) × (unsigned_abs (slice_index_or spans j d).high ≤ 2 ^ 29)
+abbrev pub AreSmallSpans : ℕ → List PartSpan → Type 0
+AreSmallSpans k spans = (j : ℕ) (d : PartSpan) → j < k → (unsigned_abs (slice_index_or spans j d).low ≤ 2 ^ 29) × (unsigned_abs (slice_index_or spans j d).high ≤ 2 ^ 29)
 
 -- the offsets with which the first cycles of the first k nodes are 0
-pub record AreLows (k : ℕ) (spans : List Span) (offsets : List ℤ) : Type 0 where
+pub record AreLows (k : ℕ) (spans : List PartSpan) (offsets : List ℤ) : Type 0 where
   pub one_each : length offsets ≡ k
-  pub each : (j : ℕ) (d : Span) → j < k → at offsets j ≡ neg_ℤ (slice_index_or spans j d).low
+  pub each : (j : ℕ) (d : PartSpan) → j < k → at offsets j ≡ neg_ℤ (slice_index_or spans j d).low

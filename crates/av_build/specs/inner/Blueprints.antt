@@ -3,9 +3,9 @@ use Rattle.std.specs.Prelude.{◌≡◌, ℕ, suc, ◌+◌, ◌<◌, Bool, false
 use Rattle.av_tree.specs.Points.{Point}
 use Rattle.av_flat.specs.Trees.{view_piece, view_variable}
 use Rattle.av_space.specs.declared.array.Array.{Array as ArrayMade}
-use Rattle.av_space.specs.declared.spots.Site.{Site as Place}
+use Rattle.av_space.specs.declared.spots.Site.{Site}
 use Rattle.av_space.specs.declared.spots.Spot.{Spot as SpotMade}
-use Rattle.av_space.specs.Taps.{Handing}
+use Rattle.av_space.specs.Taps.{Pipeline}
 use Rattle.av_space.specs.Spots.{system_of, helpers_of, placings_of, cells_of, IsArray, AreSpots, AreSites, ComputesIn}
 use Rattle.av_kinds.specs.declared.counter.Counter.{Counter}
 use Rattle.av_kinds.specs.Counters.{IsCounter, number_count}
@@ -33,21 +33,21 @@ spots_on w pieces = map (spot_by w) pieces.spots
 pub record ArePieces (w : ArrayMade) (p : ℕ) (pieces : Pieces) : Type 0 where
   pub spots : AreSpots w p (spots_on w pieces)
   pub one_each : length pieces.sites ≡ length (spots_on w pieces)
-  pub sites : (k : ℕ) (spot : SpotMade) (own : List Place) → slice_get (spots_on w pieces) k ≡ Some spot → slice_get pieces.sites k ≡ Some own → AreSites w spot own
+  pub sites : (k : ℕ) (spot : SpotMade) (own : List Site) → slice_get (spots_on w pieces) k ≡ Some spot → slice_get pieces.sites k ≡ Some own → AreSites w spot own
 
 -- ---- the helpers on a cell, in the order of its pieces and their places
 
-abbrev pub with_helper : ℕ → ℕ → Option Handing → List HelperPlan → List HelperPlan
+abbrev pub with_helper : ℕ → ℕ → Option Pipeline → List HelperPlan → List HelperPlan
 with_helper k i None helpers = helpers
 with_helper k i (Some h) helpers = record { number = h.number; piece = k; site = i } ∷ helpers
 
 -- those of the places of the piece k from the i-th on
-abbrev pub site_helpers : ℕ → ℕ → List Place → List HelperPlan
+abbrev pub site_helpers : ℕ → ℕ → List Site → List HelperPlan
 site_helpers k i [] = []
-site_helpers k i (site ∷ sites) = with_helper k i site.handing (site_helpers k (suc i) sites)
+site_helpers k i (site ∷ sites) = with_helper k i site.pipeline (site_helpers k (suc i) sites)
 
 -- of the pieces from the k-th on
-abbrev pub helpers_from : ℕ → List (List Place) → List HelperPlan
+abbrev pub helpers_from : ℕ → List (List Site) → List HelperPlan
 helpers_from k [] = []
 helpers_from k (sites ∷ pieces) = site_helpers k 0 sites ++ helpers_from (suc k) pieces
 
@@ -77,7 +77,7 @@ is_of_helper lane j = is_number lane.helper j
 
 -- the helpers of the places of the piece k are put behind others
 abbrev pub AddsHelpers : Pieces → ℕ → List HelperPlan → List HelperPlan → Type 0
-AddsHelpers pieces k old new = (own : List Place) → slice_get pieces.sites k ≡ Some own → new ≡ old ++ site_helpers k 0 own
+AddsHelpers pieces k old new = (own : List Site) → slice_get pieces.sites k ≡ Some own → new ≡ old ++ site_helpers k 0 own
 
 -- the numbers of the lanes of cells, from the q-th on
 abbrev pub AreNumbered : ℕ → List CellPlan → Type 0
@@ -123,7 +123,7 @@ pub record HasHelper (b : Blueprint) (p j : ℕ) : Type 0 where
   pub number : helper.number ≡ j
 
 -- the piece is one of those on its cell, with its places
-pub record IsSpotOn (b : Blueprint) (at : SpotMade) (sites : List Place) : Type 0 where
+pub record IsSpotOn (b : Blueprint) (at : SpotMade) (sites : List Site) : Type 0 where
   pub plan : CellPlan
   pub is_plan : slice_get b.cells at.cell ≡ Some plan
   pub number : ℕ
@@ -131,8 +131,8 @@ pub record IsSpotOn (b : Blueprint) (at : SpotMade) (sites : List Place) : Type 
   pub are_sites : slice_get plan.pieces.sites number ≡ Some sites
 
 -- the place is one of such a piece
-pub record IsPlaceOn (b : Blueprint) (at : SpotMade) (place : Place) : Type 0 where
-  pub sites : List Place
+pub record IsPlaceOn (b : Blueprint) (at : SpotMade) (place : Site) : Type 0 where
+  pub sites : List Site
   pub spot_on : IsSpotOn b at sites
   pub index : ℕ
   pub is_place : slice_get sites index ≡ Some place

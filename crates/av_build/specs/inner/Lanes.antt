@@ -7,16 +7,16 @@ use Rattle.av_flat.specs.Points.{has}
 use Rattle.av_flat.specs.Broadcasts.{Reference}
 use Rattle.av_flat.specs.Nodes.{nodes}
 use Rattle.av_space.specs.declared.cells.InPort.{InPort}
-use Rattle.av_space.specs.declared.spots.Site.{Site as Place}
+use Rattle.av_space.specs.declared.spots.Site.{Site}
 use Rattle.av_space.specs.declared.spots.Spot.{Spot as SpotMade}
 use Rattle.av_space.specs.Links.{line_length}
-use Rattle.av_space.specs.Taps.{Handing}
+use Rattle.av_space.specs.Taps.{Pipeline}
 use Rattle.av_space.specs.Spots.{system_of, helpers_of, cells_of, ComputesIn}
 use Rattle.av_kinds.specs.declared.counter.Counter.{Counter}
 use Rattle.av_kinds.specs.Counters.{count_in}
 use Rattle.av_kinds.specs.declared.program.Inlet.TheVariants.{Pipe}
-use Rattle.av_kinds.specs.declared.program.Site.{Site}
-use Rattle.av_kinds.specs.declared.program.Source.TheVariants.{Line}
+use Rattle.av_kinds.specs.declared.program.ProgramSite.{ProgramSite}
+use Rattle.av_kinds.specs.declared.program.WordSource.TheVariants.{Line}
 use Rattle.av_kinds.specs.Programs.{Work, Mode, Lane}
 use Rattle.av_kinds.specs.Written.{LaneMade, lane_of}
 use Rattle.av_history.specs.Performing.{Spot, IsHelper, helper_spot}
@@ -42,14 +42,14 @@ pub record HasPlan (b : Blueprint) (p : ℕ) (h : HelperPlan) : Type 0 where
   pub is_helper : slice_get (helpers_on plan.pieces) index ≡ Some h
 
 -- the word of the helper's lane on the cell of the piece, in the same cycle
-pub record IsPipeSite (b : Blueprint) (at : Spot) (j : ℕ) (site : Site) : Type 0 where
+pub record IsPipeSite (b : Blueprint) (at : Spot) (j : ℕ) (site : ProgramSite) : Type 0 where
   pub inlet : (plan : CellPlan) → slice_get b.cells at.cell ≡ Some plan → site.inlet ≡ Pipe (pipe_in (lanes_of b.cells) at.cell plan.lanes.first j)
   pub width : site.width.bits ≡ at.variable.width
-  pub links : site.links ≡ []
+  pub selections : site.selections ≡ []
   pub otherwise : site.otherwise ≡ Line ((lanes_of b.cells).of_helper j at.cell) 0
 
 -- what brings the word of a place to the value of a cell
-abbrev pub IsValueSite : Blueprint → Counter → SpotMade → Place → Site → Type 0
+abbrev pub IsValueSite : Blueprint → Counter → SpotMade → Site → ProgramSite → Type 0
 IsValueSite b counter at place site =
     (plan : CellPlan) → slice_get b.cells at.cell ≡ Some plan → IsPlaceSite (seen b.array) (count_in counter) (lanes_of b.cells) plan.lanes.first (spot_of at) place.place.site (view place.place.tree) site
 
@@ -82,14 +82,14 @@ AreHelperModes b counter at h modes =
 
 -- the helper is one of a place of the piece
 pub record IsHelperOn (b : Blueprint) (at : SpotMade) (h : HelperPlan) : Type 0 where
-  pub sites : List Place
+  pub sites : List Site
   pub spot_on : IsSpotOn b at sites
   pub piece_is : h.piece ≡ spot_on.number
-  pub place : Place
+  pub place : Site
   pub is_place : slice_get sites h.site ≡ Some place
-  pub handing : Handing
-  pub is_handing : place.handing ≡ Some handing
-  pub number : h.number ≡ handing.number
+  pub pipeline : Pipeline
+  pub is_pipeline : place.pipeline ≡ Some pipeline
+  pub number : h.number ≡ pipeline.number
 
 -- what a plan says is there
 abbrev pub IsPlanOn : Blueprint → ℕ → Option HelperPlan → Type 0
@@ -121,27 +121,27 @@ abbrev pub is_reference_at : ℕ → ℕ → Tree → Bool
 is_reference_at n i (reference place m) = nat_eq i n
 is_reference_at n i _ = false
 
-abbrev pub IsReferenceIn : List Place → ℕ → Place → Type 0
+abbrev pub IsReferenceIn : List Site → ℕ → Site → Type 0
 IsReferenceIn sites n site = Contains sites site × (is_reference_at n site.place.site (view site.place.tree) ≡ true)
 
-abbrev pub HasReference : List Place → ℕ → Type 0
-HasReference sites n = (site : Place) × IsReferenceIn sites n site
+abbrev pub HasReference : List Site → ℕ → Type 0
+HasReference sites n = (site : Site) × IsReferenceIn sites n site
 
 -- the place is the reference of the port, among the pieces on its cell
-pub record IsPortPlace (pieces : Pieces) (port : InPort) (site : Place) : Type 0 where
+pub record IsPortPlace (pieces : Pieces) (port : InPort) (site : Site) : Type 0 where
   pub number : ℕ
   pub at : SpotPlan
   pub is_spot : slice_get pieces.spots number ≡ Some at
   pub is_piece : at.number ≡ port.piece
-  pub sites : List Place
+  pub sites : List Site
   pub are_sites : slice_get pieces.sites number ≡ Some sites
   pub is_reference : IsReferenceIn sites port.site site
 
 -- it is there, and so are the places of each piece with its number
 pub record HasPortPlace (pieces : Pieces) (port : InPort) : Type 0 where
-  pub site : Place
+  pub site : Site
   pub is_place : IsPortPlace pieces port site
-  pub each : (k : ℕ) (at : SpotPlan) → slice_get pieces.spots k ≡ Some at → at.number ≡ port.piece → (sites : List Place) × (slice_get pieces.sites k ≡ Some sites) × HasReference sites port.site
+  pub each : (k : ℕ) (at : SpotPlan) → slice_get pieces.spots k ≡ Some at → at.number ≡ port.piece → (sites : List Site) × (slice_get pieces.sites k ≡ Some sites) × HasReference sites port.site
 
 -- ---- kinds
 

@@ -1,9 +1,9 @@
 -- Computations in the order of the counter's numbers, and what is told of each in that order.
 use Rattle.std.specs.Prelude.{◌≡◌, ◌↔◌, ℕ, ◌+◌, ◌<◌, ◌≤◌, IsTrue, List, Some, slice_get, length}
 use Rattle.av_tree.specs.Points.{Point}
-use Rattle.av_kinds.specs.declared.program.Source.{Source}
+use Rattle.av_kinds.specs.declared.program.WordSource.{WordSource}
 use Rattle.av_space.specs.declared.layout.Slot.{Slot}
-use Rattle.av_build.specs.declared.intervals.Mark.{Mark}
+use Rattle.av_build.specs.declared.windows.CounterMark.{CounterMark}
 use Rattle.av_build.specs.declared.moments.Moment.{Moment}
 
 -- no two cycles are so far apart
@@ -29,12 +29,12 @@ pub record IsAt (slots : List Slot) (order : List ℕ) (i : ℕ) (slot : Slot) :
   pub is_slot : slice_get slots place ≡ Some slot
 
 -- a mark for each of the first n, which says whether P holds of it
-pub record AreMarks (count : ℕ → ℕ) (slots : List Slot) (order : List ℕ) (P : Slot → Type 0) (n : ℕ) (marks : List Mark) : Type 0 where
+pub record AreMarks (count : ℕ → ℕ) (slots : List Slot) (order : List ℕ) (P : Slot → Type 0) (n : ℕ) (marks : List CounterMark) : Type 0 where
   pub one_each : length marks ≡ n
-  pub each : (i : ℕ) (slot : Slot) (m : Mark) → IsAt slots order i slot → slice_get marks i ≡ Some m → (m.number ≡ count slot.cycle) × (IsTrue m.holds ↔ P slot)
+  pub each : (i : ℕ) (slot : Slot) (m : CounterMark) → IsAt slots order i slot → slice_get marks i ≡ Some m → (m.number ≡ count slot.cycle) × (IsTrue m.holds ↔ P slot)
 
 -- a moment that is one of the first n computations, of which R holds
-pub record IsMoment (count : ℕ → ℕ) (slots : List Slot) (order : List ℕ) (R : Point → Type 0) (P : Point → ℕ → Source → Type 0) (n : ℕ) (t : Moment) : Type 0 where
+pub record IsMoment (count : ℕ → ℕ) (slots : List Slot) (order : List ℕ) (R : Point → Type 0) (P : Point → ℕ → WordSource → Type 0) (n : ℕ) (t : Moment) : Type 0 where
   pub index : ℕ
   pub low : index < n
   pub slot : Slot
@@ -44,10 +44,10 @@ pub record IsMoment (count : ℕ → ℕ) (slots : List Slot) (order : List ℕ)
   pub source : P slot.point slot.cycle t.source
 
 -- one for each of the first n computations of which R holds, with a source of which P holds
-pub record AreMomentsTo (count : ℕ → ℕ) (slots : List Slot) (order : List ℕ) (R : Point → Type 0) (P : Point → ℕ → Source → Type 0) (n : ℕ) (moments : List Moment) : Type 0 where
+pub record AreMomentsTo (count : ℕ → ℕ) (slots : List Slot) (order : List ℕ) (R : Point → Type 0) (P : Point → ℕ → WordSource → Type 0) (n : ℕ) (moments : List Moment) : Type 0 where
   pub each : (k : ℕ) (t : Moment) → slice_get moments k ≡ Some t → IsMoment count slots order R P n t
   pub all : (i : ℕ) (slot : Slot) → i < n → IsAt slots order i slot → R slot.point → (k : ℕ) × (t : Moment) × (slice_get moments k ≡ Some t) × (t.number ≡ count slot.cycle) × P slot.point slot.cycle t.source
   pub rises : (j k : ℕ) (t u : Moment) → j < k → slice_get moments j ≡ Some t → slice_get moments k ≡ Some u → t.number < u.number
 
-abbrev pub AreMoments : (ℕ → ℕ) → List Slot → List ℕ → (Point → Type 0) → (Point → ℕ → Source → Type 0) → List Moment → Type 0
+abbrev pub AreMoments : (ℕ → ℕ) → List Slot → List ℕ → (Point → Type 0) → (Point → ℕ → WordSource → Type 0) → List Moment → Type 0
 AreMoments count slots order R P moments = AreMomentsTo count slots order R P (length order) moments

@@ -13,7 +13,7 @@ use Rattle.av_data.specs.declared.sets.DataSet.{DataSet}
 use Rattle.av_data.specs.declared.stimulus.Given.{Given}
 use Rattle.av_data.specs.Sets.{AreSets}
 use Rattle.av_data.specs.Stimuli.{IsBefore}
-use Rattle.av_compile.specs.declared.mapping.Array.{Array}
+use Rattle.av_compile.specs.declared.mapping.MappedSystem.{MappedSystem}
 use Rattle.av_stream.specs.declared.building.Streamed.{Streamed}
 use Rattle.av_stream.specs.Periods.{HasPeriod}
 use Rattle.av_stream.specs.StreamPlans.{IsStreamOf}
@@ -25,7 +25,7 @@ use Rattle.av_commands.specs.Streams.{stream_cycles, cycles_reason, IsFirstBadSe
 -- ---- with the array
 
 -- the run on all sets is too long, or some set has a fault
-pub data RefusesSets (a : Array) (first : ℕ) (bytes reason : List ℕ) : Type 0 where
+pub data RefusesSets (a : MappedSystem) (first : ℕ) (bytes reason : List ℕ) : Type 0 where
   too_long : {period : ℕ} {sets : List DataSet} → HasPeriod a.timed a.cells period → AreSets bytes first sets
       → 4096 < stream_cycles a.cells.cycles period (length sets) → reason ≡ cycles_reason (stream_cycles a.cells.cycles period (length sets)) → RefusesSets a first bytes reason
   bad_data : {period : ℕ} {sets : List DataSet} (fault : DataFault) → HasPeriod a.timed a.cells period → AreSets bytes first sets
@@ -37,12 +37,12 @@ pub record IsStreamed (cycles : ℕ) (streamed : Streamed) (inputs : List Assign
   pub clocked : IsFedEachRun (flat_of streamed.plan) streamed.period inputs cycles run
   pub lines : out ≡ stream_text streamed ++ codes "%%\n" ++ run_lines (flat_module streamed.plan) run.in_cycle cycles
 
-pub record IsStreamOn (a : Array) (cycles : ℕ) (inputs : List Assignment) (out : List ℕ) : Type 0 where
+pub record IsStreamOn (a : MappedSystem) (cycles : ℕ) (inputs : List Assignment) (out : List ℕ) : Type 0 where
   pub streamed : Streamed
   pub is_stream : IsStreamOf a.timed a.cells streamed
   pub streams : IsStreamed cycles streamed inputs out
 
-pub record GivesSets (a : Array) (first : ℕ) (bytes out : List ℕ) : Type 0 where
+pub record GivesSets (a : MappedSystem) (first : ℕ) (bytes out : List ℕ) : Type 0 where
   pub streamed : Streamed
   pub is_stream : IsStreamOf a.timed a.cells streamed
   pub sets : List DataSet

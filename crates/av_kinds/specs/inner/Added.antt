@@ -8,7 +8,7 @@ use Rattle.av_flat.specs.declared.tree.Tree.{Tree as TreeMade}
 use Rattle.av_flat.specs.Trees.{view}
 use Rattle.av_kinds.specs.declared.choice.Guard.{Guard}
 use Rattle.av_kinds.specs.declared.choice.Tap.{Tap}
-use Rattle.av_kinds.specs.declared.gates.Gate.{Gate}
+use Rattle.av_kinds.specs.declared.gates.LaneGate.{LaneGate}
 use Rattle.av_kinds.specs.Names.{Naming}
 use Rattle.av_kinds.specs.inner.Gates.{Built, built, Named, named, named_by}
 use Rattle.av_kinds.specs.Programs.{site_count}
@@ -17,26 +17,26 @@ use Rattle.av_kinds.specs.inner.Choices.{guard_built}
 use Rattle.av_kinds.specs.inner.Cells.{Datapath, GuardedDatapath, LaneDatapaths, Taken}
 
 -- the wires are these, and the operation is the root
-pub record Adds (gates : List Gate) (b : Built) (root : Operation) : Type 0 where
+pub record Adds (gates : List LaneGate) (b : Built) (root : Operation) : Type 0 where
   pub gates_are : gates ≡ b.gates
   pub root_is : root ≡ b.root
 
-pub record AddsNamed (gates : List Gate) (b : Named) (operand : Operand) : Type 0 where
+pub record AddsNamed (gates : List LaneGate) (b : Named) (operand : Operand) : Type 0 where
   pub gates_are : gates ≡ b.gates
   pub operand_is : operand ≡ b.operand
 
 -- these wires were added, and the operation is the root
-pub record AddsBuilt (old gates : List Gate) (b : Built) (root : Operation) : Type 0 where
+pub record AddsBuilt (old gates : List LaneGate) (b : Built) (root : Operation) : Type 0 where
   pub gates_are : gates ≡ old ++ b.gates
   pub root_is : root ≡ b.root
 
 -- and a wire for the root
-pub record AddsOperand (name : Naming) (w : Width) (old gates : List Gate) (b : Built) (operand : Operand) : Type 0 where
+pub record AddsOperand (name : Naming) (w : Width) (old gates : List LaneGate) (b : Built) (operand : Operand) : Type 0 where
   pub gates_are : gates ≡ old ++ (named name (length old) w b).gates
   pub operand_is : operand ≡ (named name (length old) w b).operand
 
 -- those of several places that read
-pub record AddsTaken (old gates : List Gate) (taken : Taken) (operands : List Operand) : Type 0 where
+pub record AddsTaken (old gates : List LaneGate) (taken : Taken) (operands : List Operand) : Type 0 where
   pub gates_are : gates ≡ old ++ taken.gates
   pub operands_are : operands ≡ taken.operands
 
@@ -47,8 +47,8 @@ choice_built name n counter guard first second =
     built t.gates (Choose t.operand first second)
 
 -- the root on a wire, and then the choice by a guard between an operand and it
-pub record AddsGuarded (name : Naming) (w : Width) (counter : Operand) (guard : Guard) (first : Operand) (old : List Gate) (root : Operation) (gates : List Gate) (choice : Operation) : Type 0 where
-  pub between : List Gate
+pub record AddsGuarded (name : Naming) (w : Width) (counter : Operand) (guard : Guard) (first : Operand) (old : List LaneGate) (root : Operation) (gates : List LaneGate) (choice : Operation) : Type 0 where
+  pub between : List LaneGate
   pub second : Operand
   pub on_wire : AddsNamed between (named_by name 0 w old root) second
   pub chosen : AddsBuilt between gates (choice_built name (length between) counter guard first second) choice

@@ -7,7 +7,7 @@ use Rattle.av_net.specs.declared.operation.Operand.TheVariants.{Literal}
 use Rattle.av_net.specs.declared.operation.Operation.TheVariants.{Plain}
 use Rattle.av_net.specs.Meaning.{Words}
 use Rattle.av_flat.specs.Trees.{Tree, reference, pick}
-use Rattle.av_kinds.specs.declared.gates.Gate.{Gate}
+use Rattle.av_kinds.specs.declared.gates.LaneGate.{LaneGate}
 use Rattle.av_kinds.specs.Names.{Naming}
 use Rattle.av_kinds.specs.inner.Gates.{Built, built, Named, named}
 use Rattle.av_kinds.specs.Histories.{value_by}
@@ -58,7 +58,7 @@ datapaths_value w v c lane = datapath_value w v c (datapath_in v c lane)
 
 -- of all taps, one after another
 pub record Taken : Type 0 where
-  pub gates : List Gate
+  pub gates : List LaneGate
   pub operands : List Operand
 
 abbrev pub taps_built : Naming → Width → Operand → ℕ → List Tap → Taken

@@ -7,27 +7,27 @@ use Rattle.av_net.specs.declared.operation.Operation.{Operation}
 use Rattle.av_net.specs.declared.operation.Operation.TheVariants.{Plain, Binary, Signed, Choose, Part, Widen}
 use Rattle.av_net.specs.declared.netlist.Drive.{Drive}
 use Rattle.av_net.specs.declared.netlist.Port.{Port}
-use Rattle.av_kinds.specs.declared.gates.Gate.{Gate}
+use Rattle.av_kinds.specs.declared.gates.LaneGate.{LaneGate}
 use Rattle.av_kinds.specs.Names.{Naming}
 
-abbrev pub gate : Width → Operation → Gate
+abbrev pub gate : Width → Operation → LaneGate
 gate width operation = record { width = width; operation = operation }
 
 -- wires, and the operation that gives what they are for
 pub record Built : Type 0 where
-  pub gates : List Gate
+  pub gates : List LaneGate
   pub root : Operation
 
-abbrev pub built : List Gate → Operation → Built
+abbrev pub built : List LaneGate → Operation → Built
 built gates root = record { gates = gates; root = root }
 
 -- wires, and the operand that has what they are for
 pub record Named : Type 0 where
-  pub gates : List Gate
+  pub gates : List LaneGate
   pub operand : Operand
 
 -- a wire for the operation, but for an operand
-abbrev pub named_by : Naming → ℕ → Width → List Gate → Operation → Named
+abbrev pub named_by : Naming → ℕ → Width → List LaneGate → Operation → Named
 named_by name n w gates (Plain a) = record { gates = gates; operand = a }
 named_by name n w gates (Binary a s b) = record { gates = gates ++ gate w (Binary a s b) ∷ []; operand = Name (name (n + length gates)) }
 named_by name n w gates (Signed a s b) = record { gates = gates ++ gate w (Signed a s b) ∷ []; operand = Name (name (n + length gates)) }
@@ -40,11 +40,11 @@ abbrev pub named : Naming → ℕ → Width → Built → Named
 named name n w b = named_by name n w b.gates b.root
 
 -- the wires as drives
-abbrev pub drives_from : Naming → ℕ → List Gate → List Drive
+abbrev pub drives_from : Naming → ℕ → List LaneGate → List Drive
 drives_from name n [] = []
 drives_from name n (g ∷ gates) = record { target = name n; operation = g.operation } ∷ drives_from name (n + 1) gates
 
 -- and as declarations
-abbrev pub ports_from : Naming → ℕ → List Gate → List Port
+abbrev pub ports_from : Naming → ℕ → List LaneGate → List Port
 ports_from name n [] = []
 ports_from name n (g ∷ gates) = record { name = name n; width = g.width } ∷ ports_from name (n + 1) gates

@@ -1,16 +1,16 @@
--- The instance of a cell: what the ports of its kind take, place by place. A place with fewer links than its kind has room for takes its last source
--- once more, and an interval that is not there goes from 1 to 0.
+-- The instance of a cell: what the ports of its kind take, place by place. A place with fewer selections than its kind has room for takes its last source
+-- once more, and a window that is not there goes from 1 to 0.
 use Rattle.std.specs.Prelude.{ℕ, suc, zero, ◌+◌, Bool, true, false, List, [], ◌∷◌, ◌++◌, length, if◌then◌else◌}
 use Rattle.av_base.specs.declared.width.Width.{Width}
 use Rattle.av_net.specs.declared.operation.Operand.{Operand}
 use Rattle.av_net.specs.declared.operation.Operand.TheVariants.{Name, Literal}
 use Rattle.av_net.specs.declared.plan.Instance.{Instance}
-use Rattle.av_kinds.specs.declared.program.Source.{Source}
-use Rattle.av_kinds.specs.declared.program.Interval.{Interval}
-use Rattle.av_kinds.specs.declared.program.Link.{Link}
+use Rattle.av_kinds.specs.declared.program.WordSource.{WordSource}
+use Rattle.av_kinds.specs.declared.program.Window.{Window}
+use Rattle.av_kinds.specs.declared.program.Selection.{Selection}
 use Rattle.av_kinds.specs.declared.program.Inlet.{Inlet}
-use Rattle.av_kinds.specs.declared.program.Site.{Site}
-use Rattle.av_kinds.specs.declared.program.Source.TheVariants.{Word, Input, Line}
+use Rattle.av_kinds.specs.declared.program.ProgramSite.{ProgramSite}
+use Rattle.av_kinds.specs.declared.program.WordSource.TheVariants.{Word, Input, Line}
 use Rattle.av_kinds.specs.declared.program.Inlet.TheVariants.{Inputs, Taps, Pipe}
 use Rattle.av_kinds.specs.Programs.{Work, Mode, is_active, no_mode, mode_at, Lane}
 use Rattle.av_kinds.specs.inner.Counts.{bound}
@@ -19,47 +19,47 @@ use Rattle.av_kinds.specs.declared.shape.SiteShape.{SiteShape}
 use Rattle.av_kinds.specs.inner.Shapes.{ModeShape, LaneShape}
 use Rattle.av_kinds.specs.inner.Kinds.{counts}
 
-abbrev pub operand_of : Labels → Width → Source → Operand
+abbrev pub operand_of : Labels → Width → WordSource → Operand
 operand_of names w (Word n) = Literal w n
 operand_of names w (Input k) = Name (input_name k)
 operand_of names w (Line q d) = Name (line_name names q d)
 
 -- ---- a place
 
-abbrev pub words_for : (Source → Operand) → ℕ → List Link → Source → List Operand
-words_for f zero links otherwise = f otherwise ∷ []
+abbrev pub words_for : (WordSource → Operand) → ℕ → List Selection → WordSource → List Operand
+words_for f zero selections otherwise = f otherwise ∷ []
 words_for f (suc n) [] otherwise = f otherwise ∷ words_for f n [] otherwise
-words_for f (suc n) (l ∷ links) otherwise = f l.source ∷ words_for f n links otherwise
+words_for f (suc n) (l ∷ selections) otherwise = f l.source ∷ words_for f n selections otherwise
 
-abbrev pub bounds_for : ℕ → List Link → List Operand
-bounds_for zero links = []
+abbrev pub bounds_for : ℕ → List Selection → List Operand
+bounds_for zero selections = []
 bounds_for (suc n) [] = bound 0 ∷ bounds_for n []
-bounds_for (suc n) (l ∷ links) = bound l.last ∷ bounds_for n links
+bounds_for (suc n) (l ∷ selections) = bound l.last ∷ bounds_for n selections
 
-abbrev pub operands_in : Labels → Inlet → Width → ℕ → Site → List Operand
-operands_in names Inputs w n site = words_for (operand_of names w) n site.links site.otherwise ++ bounds_for n site.links
-operands_in names Taps w n site = words_for (operand_of names w) n site.links site.otherwise ++ bounds_for n site.links
+abbrev pub operands_in : Labels → Inlet → Width → ℕ → ProgramSite → List Operand
+operands_in names Inputs w n site = words_for (operand_of names w) n site.selections site.otherwise ++ bounds_for n site.selections
+operands_in names Taps w n site = words_for (operand_of names w) n site.selections site.otherwise ++ bounds_for n site.selections
 operands_in names (Pipe h) w n site = []
 
-abbrev pub site_operands : Labels → SiteShape → Site → List Operand
-site_operands names shape site = operands_in names shape.inlet shape.width shape.links site
+abbrev pub site_operands : Labels → SiteShape → ProgramSite → List Operand
+site_operands names shape site = operands_in names shape.inlet shape.width shape.selections site
 
 -- ---- a mode
 
-abbrev pub sites_operands : Labels → List SiteShape → List Site → List Operand
+abbrev pub sites_operands : Labels → List SiteShape → List ProgramSite → List Operand
 sites_operands names [] sites = []
 sites_operands names (shape ∷ shapes) [] = []
 sites_operands names (shape ∷ shapes) (site ∷ sites) = site_operands names shape site ++ sites_operands names shapes sites
 
-abbrev pub intervals_for : ℕ → List Interval → List Operand
-intervals_for zero intervals = []
-intervals_for (suc n) [] = bound 1 ∷ bound 0 ∷ intervals_for n []
-intervals_for (suc n) (s ∷ intervals) = bound s.first ∷ bound s.last ∷ intervals_for n intervals
+abbrev pub windows_for : ℕ → List Window → List Operand
+windows_for zero windows = []
+windows_for (suc n) [] = bound 1 ∷ bound 0 ∷ windows_for n []
+windows_for (suc n) (s ∷ windows) = bound s.first ∷ bound s.last ∷ windows_for n windows
 
 abbrev pub tested_operands : Labels → ModeShape → Mode → List Operand
-tested_operands names shape mode = sites_operands names shape.sites mode.work.sites ++ intervals_for shape.intervals mode.intervals
+tested_operands names shape mode = sites_operands names shape.sites mode.work.sites ++ windows_for shape.windows mode.windows
 
--- those of its intervals where it is tested
+-- those of its windows where it is tested
 abbrev pub mode_operands : Labels → Bool → ModeShape → Mode → List Operand
 mode_operands names true shape mode = tested_operands names shape mode
 mode_operands names false shape mode = sites_operands names shape.sites mode.work.sites

@@ -45,10 +45,10 @@ past at Taps n = record { inputs = at.inputs; taps = at.taps + suc n; bounds = a
 past at (Pipe h) n = at
 
 abbrev pub site_ports : PortCounts → SiteShape → List Port
-site_ports at site = ports_in at site.inlet site.width site.links
+site_ports at site = ports_in at site.inlet site.width site.selections
 
 abbrev pub past_site : PortCounts → SiteShape → PortCounts
-past_site at site = past at site.inlet site.links
+past_site at site = past at site.inlet site.selections
 
 -- up to each of so many bounds, a word
 abbrev pub options_by : Naming → ℕ → ℕ → ℕ → List Arm
@@ -71,7 +71,7 @@ tap_in at Taps w n = tap_by tap_name w at.taps at.bounds n
 tap_in at (Pipe h) w n = record { width = w; arms = []; otherwise = Name (pipe_name h) }
 
 abbrev pub tap_of : PortCounts → SiteShape → Tap
-tap_of at site = tap_in at site.inlet site.width site.links
+tap_of at site = tap_in at site.inlet site.width site.selections
 
 -- ---- the places of a mode
 
@@ -90,25 +90,25 @@ taps_of at (site ∷ sites) = tap_of at site ∷ taps_of (past_site at site) sit
 abbrev pub datapath_of : PortCounts → ModeShape → Datapath
 datapath_of at mode = record { taps = taps_of at mode.sites; tree = mode.tree }
 
--- ---- its intervals
+-- ---- its windows
 
 abbrev pub guards_by : ℕ → ℕ → List Guard
 guards_by b zero = []
 guards_by b (suc n) = Within (Name (bound_name b)) (Name (bound_name (b + 1))) ∷ guards_by (b + 2) n
 
 -- two bounds for each
-abbrev pub interval_ports : ℕ → ℕ → List Port
-interval_ports b zero = []
-interval_ports b (suc n) = port counter_width (bound_name b) ∷ port counter_width (bound_name (b + 1)) ∷ interval_ports (b + 2) n
+abbrev pub window_ports : ℕ → ℕ → List Port
+window_ports b zero = []
+window_ports b (suc n) = port counter_width (bound_name b) ∷ port counter_width (bound_name (b + 1)) ∷ window_ports (b + 2) n
 
 abbrev pub tested_ports : PortCounts → ModeShape → List Port
-tested_ports at mode = sites_ports at mode.sites ++ interval_ports (past_sites at mode.sites).bounds mode.intervals
+tested_ports at mode = sites_ports at mode.sites ++ window_ports (past_sites at mode.sites).bounds mode.windows
 
 abbrev pub past_tested : PortCounts → ModeShape → PortCounts
-past_tested at mode = let to = past_sites at mode.sites in record { inputs = to.inputs; taps = to.taps; bounds = to.bounds + 2 * mode.intervals }
+past_tested at mode = let to = past_sites at mode.sites in record { inputs = to.inputs; taps = to.taps; bounds = to.bounds + 2 * mode.windows }
 
 abbrev pub guarded_of : PortCounts → ModeShape → GuardedDatapath
-guarded_of at mode = record { guards = guards_by (past_sites at mode.sites).bounds mode.intervals; datapath = datapath_of at mode }
+guarded_of at mode = record { guards = guards_by (past_sites at mode.sites).bounds mode.windows; datapath = datapath_of at mode }
 
 -- ---- a lane: all its modes but the last are tested
 

@@ -17,9 +17,9 @@ use Rattle.av_kinds.specs.inner.Interfaces.{PortCounts, modes_ports, past_modes,
 -- ---- whether it counts
 
 abbrev pub selects : ModeShape → Bool
-selects mode = list_any (λ site. nat_lt 0 site.links) mode.sites
+selects mode = list_any (λ site. nat_lt 0 site.selections) mode.sites
 
--- a lane tests the counter where it has two modes, or a place with a link
+-- a lane tests the counter where it has two modes, or a place with a selection
 abbrev pub lane_counts : LaneShape → Bool
 lane_counts lane = nat_lt 1 (length lane.modes) || list_any selects lane.modes
 

@@ -1,4 +1,4 @@
--- The shape of a kind: of each of its lanes the modes that some cell of the kind has, and how many links and intervals there is room for.
+-- The shape of a kind: of each of its lanes the modes that some cell of the kind has, and how many selections and windows there is room for.
 use Rattle.std.specs.Prelude.{◌≡◌, ℕ, ◌<◌, ◌≤◌, ◌⊎◌, List, [], ◌∷◌, length, map, Some, slice_get}
 use Rattle.std.specs.List.{AllByRecursion}
 use Rattle.av_base.specs.declared.width.Width.{Width}
@@ -6,14 +6,14 @@ use Rattle.av_flat.specs.declared.tree.Tree.{Tree as TreeMade}
 use Rattle.av_flat.specs.Trees.{Tree, view}
 use Rattle.av_kinds.specs.declared.program.Inlet.{Inlet}
 use Rattle.av_kinds.specs.declared.program.Inlet.TheVariants.{Inputs, Taps, Pipe}
-use Rattle.av_kinds.specs.declared.program.Site.{Site}
+use Rattle.av_kinds.specs.declared.program.ProgramSite.{ProgramSite}
 use Rattle.av_kinds.specs.declared.shape.SiteShape.{SiteShape}
 use Rattle.av_kinds.specs.Programs.{site_count, FitsTree, Mode, mode_at, Lane}
 
--- the mode of this number, with so many intervals
+-- the mode of this number, with so many windows
 pub record ModeShape : Type 0 where
   pub number : ℕ
-  pub intervals : ℕ
+  pub windows : ℕ
   pub sites : List SiteShape
   pub tree : Tree
 
@@ -25,7 +25,7 @@ pub record LaneShape : Type 0 where
 
 pub record ModeShapeMade : Type 0 where
   pub number : ℕ
-  pub intervals : ℕ
+  pub windows : ℕ
   pub sites : List SiteShape
   pub tree : TreeMade
 
@@ -34,19 +34,19 @@ pub record LaneShapeMade : Type 0 where
   pub modes : List ModeShapeMade
 
 abbrev pub mode_shape_of : ModeShapeMade → ModeShape
-mode_shape_of m = record { number = m.number; intervals = m.intervals; sites = m.sites; tree = view m.tree }
+mode_shape_of m = record { number = m.number; windows = m.windows; sites = m.sites; tree = view m.tree }
 
 abbrev pub lane_shape_of : LaneShapeMade → LaneShape
 lane_shape_of lane = record { width = lane.width; modes = map mode_shape_of lane.modes }
 
 -- ---- the shape has room for what a cell of the kind has
 
-pub record SuitsSite (shape : SiteShape) (site : Site) : Type 0 where
+pub record SuitsSite (shape : SiteShape) (site : ProgramSite) : Type 0 where
   pub inlet : site.inlet ≡ shape.inlet
   pub width : site.width ≡ shape.width
-  pub room : length site.links ≤ shape.links
+  pub room : length site.selections ≤ shape.selections
 
-abbrev pub SuitSites : List SiteShape → List Site → Type 0
+abbrev pub SuitSites : List SiteShape → List ProgramSite → Type 0
 SuitSites [] [] = Unit {0}
 SuitSites (shape ∷ shapes) (site ∷ sites) = SuitsSite shape site × SuitSites shapes sites
 SuitSites [] (site ∷ sites) = ⊥
@@ -55,7 +55,7 @@ SuitSites (shape ∷ shapes) [] = ⊥
 pub record SuitsMode (shape : ModeShape) (mode : Mode) : Type 0 where
   pub sites : SuitSites shape.sites mode.work.sites
   pub tree : mode.work.tree ≡ shape.tree
-  pub room : length mode.intervals ≤ shape.intervals
+  pub room : length mode.windows ≤ shape.windows
 
 -- each mode of the shape has room for the lane's
 abbrev pub SuitModes : List ModeShape → List Mode → Type 0
@@ -72,7 +72,7 @@ pub record SuitsLane (shape : LaneShape) (lane : Lane) : Type 0 where
   pub width : lane.width ≡ shape.width
   pub modes : SuitModes shape.modes lane.modes
   pub numbers : (i : ℕ) (f : ModeShape) → slice_get shape.modes i ≡ Some f → f.number < length lane.modes
-  pub active : (k : ℕ) (mode : Mode) → slice_get lane.modes k ≡ Some mode → 0 < length mode.intervals → HasModeAt k shape.modes
+  pub active : (k : ℕ) (mode : Mode) → slice_get lane.modes k ≡ Some mode → 0 < length mode.windows → HasModeAt k shape.modes
 
 abbrev pub SuitLanes : List LaneShape → List Lane → Type 0
 SuitLanes [] [] = Unit {0}

@@ -11,18 +11,18 @@ use Rattle.av_net.specs.declared.operation.Operand.TheVariants.{Name, Literal}
 use Rattle.av_net.specs.declared.operation.Operation.{Operation}
 use Rattle.av_net.specs.declared.operation.Operation.TheVariants.{Plain, Binary, Signed, Choose}
 use Rattle.av_flat.specs.Trees.{Tree, reference, constant, binary, choice, pick}
-use Rattle.av_kinds.specs.declared.gates.Gate.{Gate}
+use Rattle.av_kinds.specs.declared.gates.LaneGate.{LaneGate}
 use Rattle.av_kinds.specs.Programs.{site_count}
 use Rattle.av_kinds.specs.Names.{Naming}
 use Rattle.av_kinds.specs.Tops.{one_bit}
 use Rattle.av_kinds.specs.inner.Gates.{gate, Built, built, named}
 
 -- a test on a wire of its own, and the choice by it
-abbrev pub chosen_by : Naming → ℕ → List Gate → Operation → Operand → Operand → Built
+abbrev pub chosen_by : Naming → ℕ → List LaneGate → Operation → Operand → Operand → Built
 chosen_by name n gates test first second = built (gates ++ gate one_bit test ∷ []) (Choose (Name (name (n + length gates))) first second)
 
 -- an operator on what both sides have
-abbrev pub joined : Naming → ℕ → Sign → List Gate → Operand → Operand → Built
+abbrev pub joined : Naming → ℕ → Sign → List LaneGate → Operand → Operand → Built
 joined name n sign.Add gates a b = built gates (Binary a Add b)
 joined name n sign.Sub gates a b = built gates (Binary a Sub b)
 joined name n sign.Mul gates a b = built gates (Binary a Mul b)

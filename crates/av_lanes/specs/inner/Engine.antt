@@ -8,7 +8,7 @@ use Rattle.av_clock.specs.Kept.{AreZero}
 use Rattle.av_clock.specs.Marked.{AreHeld}
 use Rattle.av_clock.specs.Merged.{merged, AreMerged}
 use Rattle.av_clock.specs.Named.{named, AllFit}
-use Rattle.av_lanes.specs.declared.engine.Engine.TheInside.{Inside}
+use Rattle.av_lanes.specs.declared.engine.LaneEngine.TheInside.{Inside}
 use Rattle.av_lanes.specs.Seen.{Seen, lane}
 use Rattle.av_lanes.specs.inner.Forms.{AreFormed}
 use Rattle.av_lanes.specs.inner.Order.{AreOrdered}

@@ -6,8 +6,8 @@ use Rattle.av_base.specs.declared.token_kind.TokenKind.{TokenKind}
 use Rattle.av_base.specs.declared.token_kind.TokenKind.TheVariants as kind
 use Rattle.av_base.specs.Tokens.{is_word_byte, number_of}
 use Rattle.av_base.specs.Spelling.{is_reserved}
-use Rattle.av_base.specs.declared.piece.Piece.{Piece}
-use Rattle.av_base.specs.declared.piece.Piece.TheVariants as piece
+use Rattle.av_base.specs.declared.lexeme.Lexeme.{Lexeme}
+use Rattle.av_base.specs.declared.lexeme.Lexeme.TheVariants as piece
 use Rattle.av_base.specs.Reading.{piece_by, symbol_by, begins_pair as begins_pair_by}
 
 -- a symbol of one byte
@@ -25,7 +25,7 @@ abbrev pub begins_pair : List ℕ → Bool
 begins_pair = begins_pair_by is_pair
 
 -- the symbol at the front
-unfoldable pub symbol_of : ℕ → List ℕ → Piece TokenKind
+unfoldable pub symbol_of : ℕ → List ℕ → Lexeme TokenKind
 symbol_of first text = symbol_by kind.Symbol is_single is_pair first text
 
 -- what a word is
@@ -33,13 +33,13 @@ abbrev pub word_kind : List ℕ → TokenKind
 word_kind text = if is_reserved text then kind.Reserved else kind.Name
 
 -- the token at the front, where no blank and no comment stands there
-unfoldable pub token_of : ℕ → List ℕ → Piece TokenKind
+unfoldable pub token_of : ℕ → List ℕ → Lexeme TokenKind
 token_of first text =
     if is_ascii_alphabetic first then piece.Token (word_kind (take (prefix_len is_word_byte text) text)) (prefix_len is_word_byte text)
     else (if is_ascii_digit first then piece.Token kind.Number (prefix_len is_ascii_digit text) else symbol_of first text)
 
 -- what stands at the front; a comment begins with --
-abbrev pub piece_of : ℕ → List ℕ → Piece TokenKind
+abbrev pub piece_of : ℕ → List ℕ → Lexeme TokenKind
 piece_of first text = piece_by 45 token_of first text
 
 -- a number's value fits 64 bits

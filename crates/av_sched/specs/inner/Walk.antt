@@ -7,7 +7,7 @@ use Rattle.av_depend.specs.declared.edge.Edge.{Edge}
 use Rattle.av_flat.specs.Trees.{FlatSystem}
 use Rattle.av_flat.specs.Nodes.{nodes}
 use Rattle.av_sched.specs.Offsets.{part}
-use Rattle.av_sched.specs.declared.price.Best.{Best}
+use Rattle.av_sched.specs.declared.price.PricedChoice.{PricedChoice}
 use Rattle.av_sched.specs.Choices.{AreLinearParts, IsFeasible}
 use Rattle.av_sched.specs.Order.{cost, IsLess}
 use Rattle.av_sched.specs.declared.price.Price.{Price}
@@ -38,7 +38,7 @@ pub record HasTried (s : FlatSystem) (c : ℕ) (component : List ℕ) (k : ℕ) 
   pub covers : (other : List Point) → AreLinearParts s c other → Agrees component k linear other → Contains tried (part other (slice_index_or component k 0)) → IsFeasible s component other → IsMet s component new other
 
 -- the choice so far, if one is known
-abbrev pub known : Option Best → Option (List Point)
+abbrev pub known : Option PricedChoice → Option (List Point)
 known None = None
 known (Some best) = Some best.parts.items
 
@@ -81,11 +81,11 @@ IsLike component linear None = Unit {0}
 IsLike component linear (Some best) = (n : ℕ) → (Contains component n → ⊥) → part best n ≡ part linear n
 
 -- the price that is told of the best choice is what it costs
-abbrev pub IsRated : FlatSystem → List ℕ → Option Best → Type 0
+abbrev pub IsRated : FlatSystem → List ℕ → Option PricedChoice → Type 0
 IsRated s component None = Unit {0}
 IsRated s component (Some best) = IsSpent s best.parts.items component best.price
 
 -- what was spent, and the least of the rest, is above the price of the best choice
-abbrev pub IsAbove : Price → Price → Option Best → Type 0
+abbrev pub IsAbove : Price → Price → Option PricedChoice → Type 0
 IsAbove spent rest None = ⊥
 IsAbove spent rest (Some best) = (best.price.left < spent.left + rest.left) ⊎ ((best.price.left ≤ spent.left + rest.left) × (best.price.size < spent.size + rest.size))

@@ -17,13 +17,13 @@ use Rattle.av_space.specs.declared.cells.Cell.{Cell}
 use Rattle.av_space.specs.declared.cells.InPort.{InPort}
 use Rattle.av_space.specs.declared.layout.Slot.{Slot}
 use Rattle.av_space.specs.declared.ports.Ports.{Ports}
-use Rattle.av_space.specs.Taps.{node_of, Handing}
+use Rattle.av_space.specs.Taps.{node_of, Pipeline}
 use Rattle.av_space.specs.Ports.{IsPort, IsPortBefore}
 use Rattle.av_space.specs.Listings.{input_name, AreInLines}
 
 -- ---- reads of a reference
 
-abbrev pub direction_of : Option Handing → Option Point
+abbrev pub direction_of : Option Pipeline → Option Point
 direction_of None = None
 direction_of (Some h) = Some h.direction
 

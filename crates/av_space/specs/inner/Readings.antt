@@ -10,7 +10,7 @@ use Rattle.av_flat.specs.Points.{has}
 use Rattle.av_flat.specs.Nodes.{nodes}
 use Rattle.av_space.specs.declared.cells.Cell.{Cell}
 use Rattle.av_space.specs.declared.layout.Slot.{Slot}
-use Rattle.av_space.specs.declared.stretch.Reading.{Reading}
+use Rattle.av_space.specs.declared.stretch.TapReading.{TapReading}
 use Rattle.av_space.specs.Coordinates.{Placing}
 use Rattle.av_space.specs.Occupancy.{Computes}
 use Rattle.av_space.specs.Taps.{Way, each, entries, handed, Tap, node_place, taps, IsTapRead}
@@ -76,7 +76,7 @@ pub record IsReadingOf (s : FlatSystem) (placings : List Placing) (cells : List 
   pub is : IsReadingAt s placings cells n t piece point c q d
 
 -- all readings for which R holds, by cycle
-pub record AreReadings (R : ℕ → ℕ → ℕ → Type 0) (readings : List Reading) : Type 0 where
+pub record AreReadings (R : ℕ → ℕ → ℕ → Type 0) (readings : List TapReading) : Type 0 where
   pub each : All (λ r. R r.cycle r.producer r.delay) readings
   pub all : (c q d : ℕ) → R c q d → Contains readings (record { cycle = c; producer = q; delay = d })
   pub order : AreByCycle readings

@@ -8,11 +8,11 @@ use Rattle.av_flat.specs.Broadcasts.{references}
 use Rattle.av_flat.specs.Nodes.{nodes}
 use Rattle.av_space.specs.declared.tap.Way.{Way as WayMade}
 use Rattle.av_space.specs.declared.tap.Way.TheVariants as made
-use Rattle.av_space.specs.Sites.{PlaceMade, place_of}
-use Rattle.av_space.specs.Taps.{Place, Way, each, entries, handed, Tap, places_in, taps_at, taps_of, is_own}
+use Rattle.av_space.specs.Sites.{ReadingPlaceMade, place_of}
+use Rattle.av_space.specs.Taps.{ReadingPlace, Way, each, entries, handed, Tap, places_in, taps_at, taps_of, is_own}
 
 pub record TapMade : Type 0 where
-  pub place : PlaceMade
+  pub place : ReadingPlaceMade
   pub way : WayMade
 
 abbrev pub way_of : WayMade → Way
@@ -24,17 +24,17 @@ abbrev pub tap_of : TapMade → Tap
 tap_of t = record { place = place_of t.place; way = way_of t.way }
 
 -- the places of a tree, whose references have the numbers from n on, stand behind the old ones, and next is the number after theirs
-pub record HasPlaces (k n : ℕ) (tree : TreeMade) (old new : List PlaceMade) (next : ℕ) : Type 0 where
+pub record HasPlaces (k n : ℕ) (tree : TreeMade) (old new : List ReadingPlaceMade) (next : ℕ) : Type 0 where
   pub places : map place_of new ≡ map place_of old ++ places_in k n (view tree)
   pub next_is : next ≡ n + length (references (view tree))
   pub within : next ≤ length new
 
 -- the taps of those places that are picks of the variable itself, or of those that are not
-abbrev pub is_among : ℕ → Bool → Place → Bool
+abbrev pub is_among : ℕ → Bool → ReadingPlace → Bool
 is_among own true p = is_own own p.tree
 is_among own false p = not (is_own own p.tree)
 
-abbrev pub taps_where : FlatSystem → List Helper → ℕ → Bool → List Place → List Tap
+abbrev pub taps_where : FlatSystem → List Helper → ℕ → Bool → List ReadingPlace → List Tap
 taps_where s hs own picks ps = flat_map (λ p. taps_at s hs own p.tree p) (filter (is_among own picks) ps)
 
 -- the taps of the first n nodes, or of all

@@ -11,7 +11,7 @@ use Rattle.av_space.specs.declared.cells.Cell.{Cell}
 use Rattle.av_space.specs.declared.layout.Slot.{Slot}
 use Rattle.av_space.specs.declared.spots.Site.{Site}
 use Rattle.av_space.specs.declared.spots.Spot.{Spot}
-use Rattle.av_space.specs.Taps.{node_place, Handing, Place, Tap, taps, IsTapRead}
+use Rattle.av_space.specs.Taps.{node_place, Pipeline, ReadingPlace, Tap, taps, IsTapRead}
 use Rattle.av_depend.specs.ComputedPlaces.{computed_at}
 use Rattle.av_space.specs.Spots.{system_of, helpers_of, cells_of, own_way, IsSiteOf}
 
@@ -34,7 +34,7 @@ pub record IsSpotTap (a : Array) (at : Spot) (tap : Tap) : Type 0 where
   pub piece_is : tap.place.piece ≡ at.number
 
 -- the tap of a place with its helper
-abbrev pub own_tap : Place → Option Handing → Tap
+abbrev pub own_tap : ReadingPlace → Option Pipeline → Tap
 own_tap p h = record { place = p; way = own_way h }
 
 -- it reads at a computation

@@ -1,7 +1,7 @@
 -- Links of some tap sites: all maximal stretches of their readings with one producer and one delay, in order.
 use Rattle.std.specs.Prelude.{◌≡◌, ℕ, ◌<◌, ◌≤◌, ◌⊎◌, List, ◌++◌, All, AllPairs, Contains}
 use Rattle.av_space.specs.declared.cells.Link.{Link}
-use Rattle.av_space.specs.declared.stretch.Reading.{Reading}
+use Rattle.av_space.specs.declared.stretch.TapReading.{TapReading}
 use Rattle.av_space.specs.Links.{IsLinkBefore, IsInLink}
 
 -- ---- of any readings T p j c q d: on the cell p the site j reads in cycle c what the cell q had d cycles before
@@ -51,14 +51,14 @@ IsAmong p j k i = (k ≡ p) × (i < j)
 abbrev pub IsAt : ℕ → ℕ → ℕ → ℕ → Type 0
 IsAt p j k i = (k ≡ p) × (i ≡ j)
 
-abbrev pub Told : List Reading → ℕ → ℕ → ℕ → ℕ → ℕ → Type 0
+abbrev pub Told : List TapReading → ℕ → ℕ → ℕ → ℕ → ℕ → Type 0
 Told readings p j c q d = Contains readings (record { cycle = c; producer = q; delay = d })
 
-abbrev pub AreByCycle : List Reading → Type 0
+abbrev pub AreByCycle : List TapReading → Type 0
 AreByCycle readings = AllPairs (λ a b. a.cycle < b.cycle) readings
 
 -- the stretches of the readings so far: those that have ended, and the last, which may go on
-pub record IsOpen (p j : ℕ) (readings : List Reading) (ended : List Link) (last : Link) : Type 0 where
+pub record IsOpen (p j : ℕ) (readings : List TapReading) (ended : List Link) (last : Link) : Type 0 where
   pub within : All (λ l. IsAt p j l.consumer l.site) ended
   pub last_within : IsAt p j last.consumer last.site
   pub each : All (IsStretchOf (Told readings)) ended
@@ -71,7 +71,7 @@ pub record IsOpen (p j : ℕ) (readings : List Reading) (ended : List Link) (las
   pub latest : All (λ r. r.cycle ≤ last.last) readings
 
 -- the old ones, those that have ended, and the one that may go on
-pub record HasOpen (p j : ℕ) (readings : List Reading) (old new : List Link) (last : Link) : Type 0 where
+pub record HasOpen (p j : ℕ) (readings : List TapReading) (old new : List Link) (last : Link) : Type 0 where
   pub ended : List Link
   pub new_is : new ≡ old ++ ended
   pub are : IsOpen p j readings ended last

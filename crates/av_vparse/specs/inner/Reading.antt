@@ -7,8 +7,8 @@ use Rattle.std.specs.Str.{bytes_eq}
 use Rattle.av_base.specs.declared.place.Place.{Place}
 use Rattle.av_base.specs.declared.width.Width.{Width}
 use Rattle.av_base.specs.Tokens.{start, number_of}
-use Rattle.av_net.specs.declared.token_kind.TokenKind.{TokenKind}
-use Rattle.av_net.specs.declared.token_kind.TokenKind.TheVariants as kind
+use Rattle.av_net.specs.declared.token_kind.DesignTokenKind.{DesignTokenKind}
+use Rattle.av_net.specs.declared.token_kind.DesignTokenKind.TheVariants as kind
 use Rattle.av_net.specs.declared.operation.Symbol.{Symbol}
 use Rattle.av_net.specs.declared.operation.Symbol.TheVariants as symbol
 use Rattle.av_net.specs.declared.operation.Operand.{Operand}
@@ -18,7 +18,7 @@ use Rattle.av_net.specs.declared.operation.Operation.TheVariants as operation
 use Rattle.av_net.specs.declared.netlist.Port.{Port}
 use Rattle.av_net.specs.Names.{clk, rst}
 use Rattle.av_net.specs.Lexemes.{Token}
-use Rattle.av_net.specs.Grammar.{Text, ModuleText, Declaration, wire, register, Link, Instantiation, Item, drive, widening, step, instance}
+use Rattle.av_net.specs.Grammar.{Text, ModuleText, SignalDeclaration, wire, register, PortLink, Instantiation, Item, drive, widening, step, instance}
 use Rattle.av_vparse.specs.Digits.{are_digits}
 use Rattle.av_vparse.specs.inner.Bits.{is_width, width_of}
 use Rattle.av_vparse.specs.declared.fault.ReadError.{ReadError}
@@ -47,7 +47,7 @@ Read A = List Token → Result (A × List Token) Place
 -- ---- single tokens
 
 -- the kinds as numbers
-abbrev pub code : TokenKind → ℕ
+abbrev pub code : DesignTokenKind → ℕ
 code kind.Name = 0
 code kind.Reserved = 1
 code kind.System = 2
@@ -56,7 +56,7 @@ code kind.Literal = 4
 code kind.Symbol = 5
 code kind.End = 6
 
-abbrev pub same : TokenKind → TokenKind → Bool
+abbrev pub same : DesignTokenKind → DesignTokenKind → Bool
 same a b = nat_eq (code a) (code b)
 
 -- where the next token stands
@@ -181,7 +181,7 @@ declared_at ts = port_at ts >>= λ port. word_at (codes ";") port.1 >>= λ rest.
 abbrev pub begins_declaration : List Token → Bool
 begins_declaration ts = is_at (codes "wire") ts || is_at (codes "reg") ts
 
-unfoldable pub declaration_at : Read Declaration
+unfoldable pub declaration_at : Read SignalDeclaration
 declaration_at ts =
     if is_at (codes "wire") ts then (declared_at (after ts) >>= λ port. Ok (wire port.0, port.1))
     else (word_at (codes "reg") ts >>= λ rest. declared_at rest >>= λ port. Ok (register port.0, port.1))
@@ -334,7 +334,7 @@ begins_name [] = false
 begins_name (t ∷ ts) = same t.kind kind.Name
 
 -- `.port(operand)`
-unfoldable pub link_at : Read Link
+unfoldable pub link_at : Read PortLink
 link_at ts = do
   t1 ← word_at (codes ".") ts
   port ← name_at t1
@@ -343,7 +343,7 @@ link_at ts = do
   t3 ← word_at (codes ")") operand.1
   Ok (record { port = port.0; operand = operand.0 }, t3)
 
-unfoldable pub next_link_at : Read Link
+unfoldable pub next_link_at : Read PortLink
 next_link_at ts = word_at (codes ",") ts >>= λ rest. link_at rest
 
 abbrev pub begins_item : List Token → Bool
@@ -362,14 +362,14 @@ all_at begins read ts = many_at begins read (length ts) [] ts
 abbrev pub ports_at : List ℕ → Read (List Port)
 ports_at direction ts = all_at (are_at (codes ",") direction) (directed_at direction) ts
 
-abbrev pub declarations_at : Read (List Declaration)
+abbrev pub declarations_at : Read (List SignalDeclaration)
 declarations_at ts = all_at begins_declaration declaration_at ts
 
 -- one link and more behind commas
-abbrev pub links_from : Link → Read (List Link)
+abbrev pub links_from : PortLink → Read (List PortLink)
 links_from first ts = all_at (is_at (codes ",")) next_link_at ts >>= λ later. Ok (first ∷ later.0, later.1)
 
-abbrev pub links_at : Read (List Link)
+abbrev pub links_at : Read (List PortLink)
 links_at ts = link_at ts >>= λ first. links_from first.0 first.1
 
 -- `kind name (link, ..);`
@@ -421,7 +421,7 @@ header_at ts = do
   t3 ← closed_at outputs.1
   Ok (record { name = name.0; inputs = inputs.0; outputs = outputs.0 }, t3)
 
-abbrev pub with_body : Header → List Declaration → List Item → ModuleText
+abbrev pub with_body : Header → List SignalDeclaration → List Item → ModuleText
 with_body header declarations items = record {
   name = header.name;
   inputs = header.inputs;
@@ -491,10 +491,10 @@ kind_header_at ts = do
   t2 ← word_at (codes "(") name.1
   kind_ports_at name.0 t2
 
-unfoldable pub kind_wire_at : Read Declaration
+unfoldable pub kind_wire_at : Read SignalDeclaration
 kind_wire_at ts = word_at (codes "wire") ts >>= λ a. declared_at a >>= λ port. Ok (wire port.0, port.1)
 
-abbrev pub kind_wires_at : Read (List Declaration)
+abbrev pub kind_wires_at : Read (List SignalDeclaration)
 kind_wires_at ts = all_at (is_at (codes "wire")) kind_wire_at ts
 
 -- what follows the header of a kind

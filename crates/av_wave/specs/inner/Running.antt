@@ -10,10 +10,10 @@ use Rattle.av_wave.specs.Dumps.{dump_text}
 use Rattle.av_wave.specs.Simulated.{header_ports}
 use Rattle.av_wave.specs.Clocking.{AreWires}
 use Rattle.av_wave.specs.Recorded.{IsCaptured}
-use Rattle.av_wave.specs.declared.run.Prepared.{Prepared}
+use Rattle.av_wave.specs.declared.run.PreparedRun.{PreparedRun}
 
 -- everything is there to clock the module, and to tell the words of its ports
-pub record IsPrepared (m : Module) (p : Prepared) : Type 0 where
+pub record IsPrepared (m : Module) (p : PreparedRun) : Type 0 where
   pub sound : IsSound m
   pub clock : p.clock.of ≡ m
   pub ports : p.ports ≡ header_ports m

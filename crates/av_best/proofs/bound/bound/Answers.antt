@@ -6,7 +6,7 @@ use Rattle.av_sched.specs.Arcs.{Solves, IsLeastSolution}
 use Rattle.av_sched.specs.Witnesses.{IsWitnessArc}
 use Rattle.av_sched.proofs.Inside.{vectors_of}
 use Rattle.av_sched.proofs.Witnesses.{usable_witnesses}
-use Rattle.av_best.specs.declared.span.Span.{Span}
+use Rattle.av_best.specs.declared.span.PartSpan.{PartSpan}
 use Rattle.av_best.specs.inner.Spans.{IsLeastAbove}
 use Rattle.av_best.proofs.Every.{as_many}
 use Rattle.av_best.proofs.Spanning.{small_spans}
@@ -22,7 +22,7 @@ witness_arcs-requires-clause-usable c =
 pub raise_to_least-requires-clause-low : goal.raise_to_least-requires-clause-low
 raise_to_least-requires-clause-low c =
     let s = view_system c.args._flat.now in
-    let d : Span = record { low = pos 0; high = pos 0 } in
+    let d : PartSpan = record { low = pos 0; high = pos 0 } in
     lows_small c.args.level c.args.spans.now c.set_starts.new.offsets.items d (small_spans s c.args.level c.args.linear.now c.args.spans.now c.requires.spans) c.in_ok-set_starts.ensures
 
 pub returns-then-not-branch : goal.returns-then-not-branch
@@ -32,7 +32,7 @@ returns-then-not-branch c =
     let linear = c.args.linear.now in
     let arcs = c.witness_arcs.new.arcs.items in
     let low = c.set_starts.new.offsets.items in
-    let d : Span = record { low = pos 0; high = pos 0 } in
+    let d : PartSpan = record { low = pos 0; high = pos 0 } in
     let few : level ≤ length (nodes s) = (let l = subst (λ (ns : List ℕ). level ≤ length ns) c.requires.nodes c.requires.level in let e = as_many s in omega (arith, l, e)) in
     let witnesses = subst (λ (ns : List ℕ). All (IsWitnessArc c.args.edges.now ns level linear) arcs) c.requires.nodes c.in_ok-witness_arcs.ensures in
     forbidden_there s c.args.edges.now level linear c.requires.chained c.requires.edges few arcs witnesses c.args.spans.now c.requires.spans low c.in_ok-set_starts.ensures d
@@ -46,7 +46,7 @@ returns c =
     let arcs = c.witness_arcs.new.arcs.items in
     let low = c.set_starts.new.offsets.items in
     let off = c.raise_to_least.new.off.items in
-    let d : Span = record { low = pos 0; high = pos 0 } in
+    let d : PartSpan = record { low = pos 0; high = pos 0 } in
     let few : level ≤ length (nodes s) = (let l = subst (λ (ns : List ℕ). level ≤ length ns) c.requires.nodes c.requires.level in let e = as_many s in omega (arith, l, e)) in
     let witnesses = subst (λ (ns : List ℕ). All (IsWitnessArc c.args.edges.now ns level linear) arcs) c.requires.nodes c.in_ok-witness_arcs.ensures in
     let least = subst (λ (xs : List Arc). IsLeastSolution xs low off) c.deref.ensures.value (c.in_ok-raise_to_least.ensures.some (search rules)) in

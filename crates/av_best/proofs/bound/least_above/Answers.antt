@@ -1,7 +1,7 @@
 use Rattle.std.proofs.Common.{◌≡◌, ◌<◌, ◌+◌, max, pos, length, get_or, refl, subst, sym, arith, rules, w64, FitsSigned, to_z-of_z}
 use Rattle.av_sched.specs.Arcs.{at}
 use Rattle.av_base.proofs.Lists.{same_default}
-use Rattle.av_best.specs.declared.span.Span.{Span}
+use Rattle.av_best.specs.declared.span.PartSpan.{PartSpan}
 use Rattle.av_best.specs.inner.Spans.{IsLeastAbove}
 use Rattle.av_best.proofs.Lasting.{above_more}
 use Rattle.av_best.proofs.bound.least_above.Goals as goal
@@ -11,7 +11,7 @@ loop-j-preserved c =
     let j = c.loop-j.j in
     let spans = c.args.spans.now in
     let l : j < length spans = (let t = c.loop-j-test.true in let k = c.requires.spans in omega (arith, t, k)) in
-    let d : Span = record { low = pos 0; high = pos 0 } in
+    let d : PartSpan = record { low = pos 0; high = pos 0 } in
     let f : FitsSigned w64 (get_or c.args.offsets.now j (pos 0)) = search rules in
     let g : FitsSigned w64 (get_or spans j d).high = search rules in
     let below = simp to_z-of_z at c.through.ensures.above in

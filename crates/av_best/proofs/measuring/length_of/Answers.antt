@@ -8,7 +8,7 @@ use Rattle.av_flat.specs.Nodes.{nodes}
 use Rattle.av_sched.specs.Leads.{IsSmallPoint}
 use Rattle.av_sched.proofs.Schedule.{part_of}
 use Rattle.av_base.proofs.Lists.{there_is, take_whole}
-use Rattle.av_best.specs.declared.span.Span.{Span}
+use Rattle.av_best.specs.declared.span.PartSpan.{PartSpan}
 use Rattle.av_best.specs.Lengths.{linear_parts, offsets_of}
 use Rattle.av_best.specs.Least.{all_nodes}
 use Rattle.av_best.specs.inner.Spans.{IsSpanAt, ArePointsOf, AreSpanned, IsLeastAbove}
@@ -80,7 +80,7 @@ returns c =
     let slice = c.as_slice-times.result.now in
     let k = c.loop-k.k in
     let spans = c.loop-k.spans.items in
-    let d : Span = record { low = pos 0; high = pos 0 } in
+    let d : PartSpan = record { low = pos 0; high = pos 0 } in
     let over : length slice ≤ k = search rules in
     let under : k ≤ length slice = search rules in
     let e = ap (λ (xs : List Time). length xs) c.as_slice-times.ensures in
@@ -90,6 +90,6 @@ returns c =
     let offs : c.loop-k.offsets.items ≡ offsets_of times = c.loop-k.invariant.offsets ∙ ap (map (λ (t : Time). t.offset)) (take_whole slice k over ∙ c.as_slice-times.ensures) in
     let spanned = subst (λ (n : ℕ). AreSpanned s n (linear_parts times) spans) (let q : k ≡ length (all_nodes s) = omega (arith, over, under, all) in q) c.loop-k.invariant.spanned in
     let above1 = subst (λ (xs : List ℤ). IsLeastAbove xs c.deref-2.result.now (length slice) c.least_above.result) (c.deref.ensures.value ∙ offs) c.least_above.ensures in
-    let above2 = subst (λ (xs : List Span). IsLeastAbove (offsets_of times) xs (length slice) c.least_above.result) c.deref-2.ensures.value above1 in
+    let above2 = subst (λ (xs : List PartSpan). IsLeastAbove (offsets_of times) xs (length slice) c.least_above.result) c.deref-2.ensures.value above1 in
     let above = subst (λ (n : ℕ). IsLeastAbove (offsets_of times) spans n c.least_above.result) all above2 in
     length_there s (linear_parts times) spans spanned d (offsets_of times) c.least_above.result (starts_of_schedule s 4 times c.requires.schedule) above

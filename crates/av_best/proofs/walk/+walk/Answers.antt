@@ -10,7 +10,7 @@ use Rattle.av_sched.specs.Prices.{IsSpent, ArePricesAt}
 use Rattle.av_sched.proofs.Steps.{parts_at, part_is_valid, take_more}
 use Rattle.av_sched.proofs.Pricing.{price_there}
 use Rattle.av_base.proofs.Lists.{same_default, take_whole}
-use Rattle.av_best.specs.declared.span.Span.{Span}
+use Rattle.av_best.specs.declared.span.PartSpan.{PartSpan}
 use Rattle.av_best.specs.inner.Spans.{AreSpanned}
 use Rattle.av_best.specs.inner.Joint.{IsBound, IsBounded, HasWalked}
 use Rattle.av_best.proofs.Every.{as_many, node_there}
@@ -83,7 +83,7 @@ walk-walk_unless_barred-requires t c =
     let in_prices : level < length c.args.plan.now.prices = (let z = c.requires.prices.one_each in omega (arith, fits, z)) in
     let in_table : level < length c.args.table.now = (let z = c.requires.table.one_each in omega (arith, fits, z)) in
     let free : Price = record { left = 0; size = 0 } in
-    let blank : Span = record { low = pos 0; high = pos 0 } in
+    let blank : PartSpan = record { low = pos 0; high = pos 0 } in
     let list = slice_index_or c.args.plan.now.lists level [] in
     let of_list : items ≡ list = c.as_slice-parts.ensures ∙ at ∙ same_default c.args.plan.now.lists level c.index-as_slice-level.result [] in_lists in
     let of_prices = c.as_slice-prices.ensures ∙ at2 ∙ same_default c.args.plan.now.prices level c.index-as_slice-level-2.result [] in_prices in

@@ -12,7 +12,7 @@ use Rattle.av_sched.proofs.Inside.{vectors_of}
 use Rattle.av_sched.proofs.Usable.{usable}
 use Rattle.av_sched.proofs.Bridge.{arcs_fit, least_offsets, no_offsets}
 use Rattle.av_best.specs.declared.best.Best.{Best}
-use Rattle.av_best.specs.declared.span.Span.{Span}
+use Rattle.av_best.specs.declared.span.PartSpan.{PartSpan}
 use Rattle.av_best.specs.Lengths.{HasLength}
 use Rattle.av_best.specs.Least.{all_nodes}
 use Rattle.av_best.specs.inner.Spans.{AreSpanned, AreLows, IsLeastAbove}
@@ -47,7 +47,7 @@ raise_to_least-requires-clause-arcs c =
     let spans = c.args.spans.now in
     let edges = c.args.edges.now in
     let low = c.set_starts.new.offsets.items in
-    let d : Span = record { low = pos 0; high = pos 0 } in
+    let d : PartSpan = record { low = pos 0; high = pos 0 } in
     let lows : AreLows (length ns) spans low = search rules in
     let u = usable s edges linear c.requires.chained c.requires.proper c.requires.edges (vectors_of s size linear c.args.reach.most c.requires.linear) in
     let zip = subst (λ (xs : List Arc). AllZip (IsArcOf linear) edges xs) (sym c.deref.ensures.value) c.in_ok-arcs.ensures in
@@ -66,7 +66,7 @@ raise_to_least-requires-clause-low c =
     let spans = c.args.spans.now in
     let edges = c.args.edges.now in
     let low = c.set_starts.new.offsets.items in
-    let d : Span = record { low = pos 0; high = pos 0 } in
+    let d : PartSpan = record { low = pos 0; high = pos 0 } in
     let lows : AreLows (length ns) spans low = search rules in
     lows_small (length ns) spans low d (small_spans s (length ns) linear spans c.requires.spans) lows
 
@@ -97,7 +97,7 @@ returns-then-not-branch-2-clause-walked c =
     let spans = c.args.spans.now in
     let edges = c.args.edges.now in
     let low = c.set_starts.new.offsets.items in
-    let d : Span = record { low = pos 0; high = pos 0 } in
+    let d : PartSpan = record { low = pos 0; high = pos 0 } in
     let lows : AreLows (length ns) spans low = search rules in
     let arcs = c.in_ok-arcs.arcs.items in
     let zip = c.in_ok-arcs.ensures in
@@ -116,7 +116,7 @@ returns-then-not-branch-3-clause-walked c =
     let spans = c.args.spans.now in
     let edges = c.args.edges.now in
     let low = c.set_starts.new.offsets.items in
-    let d : Span = record { low = pos 0; high = pos 0 } in
+    let d : PartSpan = record { low = pos 0; high = pos 0 } in
     let lows : AreLows (length ns) spans low = search rules in
     let arcs = c.in_ok-arcs.arcs.items in
     let zip = c.in_ok-arcs.ensures in
@@ -143,7 +143,7 @@ returns-clause-walked c =
     let spans = c.args.spans.now in
     let edges = c.args.edges.now in
     let low = c.set_starts.new.offsets.items in
-    let d : Span = record { low = pos 0; high = pos 0 } in
+    let d : PartSpan = record { low = pos 0; high = pos 0 } in
     let lows : AreLows (length ns) spans low = search rules in
     let arcs = c.in_ok-arcs.arcs.items in
     let zip = c.in_ok-arcs.ensures in

@@ -1,7 +1,7 @@
 use Rattle.std.proofs.Common.{◌≡◌, ◌∙◌, ◌++◌, [], ◌∷◌, List, sym, ap, subst}
 use Rattle.av_base.proofs.Lists.{some_is}
 use Rattle.av_space.specs.declared.spots.Site.{Site}
-use Rattle.av_space.specs.Taps.{Handing}
+use Rattle.av_space.specs.Taps.{Pipeline}
 use Rattle.av_build.specs.inner.Blueprints.{site_helpers}
 use Rattle.av_build.proofs.BlueprintSteps.{none_step, some_step, last_step}
 use Rattle.av_build.proofs.Pairwise.{element_of}
@@ -11,13 +11,13 @@ pub loop-site-preserved-in_default : goal.loop-site-preserved-in_default
 loop-site-preserved-in_default c =
     let sites = c.as_slice-sites.result.now in
     none_step c.args.piece c.loop-site.site c.loop-site.helpers (c.args.helpers.now ++ site_helpers c.args.piece 0 sites) sites c.index-sites-site.result c.loop-site-test.true
-    (ap (λ (s : Site). s.handing) (sym c.index-sites-site.is) ∙ ap (λ (s : Site). s.handing) c.index-sites-site.is ∙ c.in_default.is) c.loop-site.invariant
+    (ap (λ (s : Site). s.pipeline) (sym c.index-sites-site.is) ∙ ap (λ (s : Site). s.pipeline) c.index-sites-site.is ∙ c.in_default.is) c.loop-site.invariant
 
 pub loop-site-preserved : goal.loop-site-preserved
 loop-site-preserved c =
     let sites = c.as_slice-sites.result.now in
-    let h = c.in-Some.handing in
-    let number = ap (λ (h : Handing). h.number) c.handing.view_is in
+    let h = c.in-Some.pipeline in
+    let number = ap (λ (h : Pipeline). h.number) c.pipeline.view_is in
     some_step c.args.piece c.loop-site.site c.loop-site.helpers (c.args.helpers.now ++ site_helpers c.args.piece 0 sites) c.push.new.self sites c.index-sites-site.result h c.loop-site-test.true c.in-Some.is c.loop-site.invariant
     (c.in_ok-push.ensures.ok ∙ ap (λ j. c.loop-site.helpers ++ record { number = j; piece = c.args.piece; site = c.loop-site.site } ∷ []) number)
 

@@ -16,14 +16,14 @@ point_of-requires-clause-small c =
 
 pub returns-in_default-point_of-clause-err : goal.returns-in_default-point_of-clause-err
 returns-in_default-point_of-clause-err c =
-    let x = c.in-Some.saying in
+    let x = c.in-Some.binding in
     let p = c.in-Some-input_place.place in
     outside_cause (view_system c.args.flat.now) c.requires.readable c.args.words.now c.args.line c.args.text.now c.requires.filled x.name.now x.entries.kept.items x.entries.far x.word.bits c.in-Some.ensures.some p
     (view_variable c.variable_at.result.now) c.in-Some-input_place.ensures.some (ap (λ (vs : List Var). slice_get (map view_variable vs) p) (sym c.as_slice.ensures) ∙ c.variable_at.ensures) c.in_default-point_of.ensures.none
 
 pub returns-then-branch-clause-ok : goal.returns-then-branch-clause-ok
 returns-then-branch-clause-ok c =
-    let x = c.in-Some.saying in
+    let x = c.in-Some.binding in
     let p = c.in-Some-input_place.place in
     filled_taken (view_system c.args.flat.now) c.requires.readable c.args.words.now c.args.line c.args.text.now c.requires.filled x.name.now x.entries.kept.items x.entries.far x.word.bits c.in-Some.ensures.some p
     (view_variable c.variable_at.result.now) c.in-Some-input_place.ensures.some (ap (λ (vs : List Var). slice_get (map view_variable vs) p) (sym c.as_slice.ensures) ∙ c.variable_at.ensures) c.in-Some-point_of.point
@@ -31,7 +31,7 @@ returns-then-branch-clause-ok c =
 
 pub returns-else-branch-clause-err : goal.returns-else-branch-clause-err
 returns-else-branch-clause-err c =
-    let x = c.in-Some.saying in
+    let x = c.in-Some.binding in
     let p = c.in-Some-input_place.place in
     twice_cause (view_system c.args.flat.now) c.requires.readable c.args.words.now c.args.line c.args.text.now c.requires.filled x.name.now x.entries.kept.items x.entries.far x.word.bits c.in-Some.ensures.some p
     (view_variable c.variable_at.result.now) c.in-Some-input_place.ensures.some (ap (λ (vs : List Var). slice_get (map view_variable vs) p) (sym c.as_slice.ensures) ∙ c.variable_at.ensures) c.in-Some-point_of.point

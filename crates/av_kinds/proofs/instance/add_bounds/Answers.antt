@@ -5,9 +5,9 @@ use Rattle.av_kinds.proofs.instance.add_bounds.Goals as goal
 
 pub loop-k-preserved : goal.loop-k-preserved
 loop-k-preserved c =
-    bound_put c.args.count c.args.links.now c.loop-k.k c.loop-k.operands c.push.new.self (c.args.operands.now ++ bounds_for c.args.count c.args.links.now) c.last_at.result c.bound.result
+    bound_put c.args.count c.args.selections.now c.loop-k.k c.loop-k.operands c.push.new.self (c.args.operands.now ++ bounds_for c.args.count c.args.selections.now) c.last_at.result c.bound.result
     c.loop-k.invariant c.last_at.ensures c.bound.ensures c.in_ok-push.ensures.ok
 
 pub returns : goal.returns
 returns c =
-    bounds_put c.args.count c.args.links.now c.loop-k.k c.loop-k.operands (c.args.operands.now ++ bounds_for c.args.count c.args.links.now) c.loop-k.invariant (search rules)
+    bounds_put c.args.count c.args.selections.now c.loop-k.k c.loop-k.operands (c.args.operands.now ++ bounds_for c.args.count c.args.selections.now) c.loop-k.invariant (search rules)

@@ -6,4 +6,4 @@ use Rattle.av_kinds.proofs.InstanceSteps.{AreWordsFrom}
 use Rattle.av_kinds.proofs.instance.add_words.Given as goal
 
 abbrev pub invariant-loop-k : goal.invariant-loop-k
-invariant-loop-k l = AreWordsFrom (operand_of (labels (program_of l.program)) l.width) l.count l.site.links l.site.otherwise l.k l.operands (l.initial.operands ++ words_for (operand_of (labels (program_of l.program)) l.width) l.count l.site.links l.site.otherwise)
+invariant-loop-k l = AreWordsFrom (operand_of (labels (program_of l.program)) l.width) l.count l.site.selections l.site.otherwise l.k l.operands (l.initial.operands ++ words_for (operand_of (labels (program_of l.program)) l.width) l.count l.site.selections l.site.otherwise)

@@ -3,4 +3,4 @@ use Rattle.std.specs.List.{list_any}
 use Rattle.av_kinds.proofs.shape.selects.Given as goal
 
 abbrev pub invariant-loop-site : goal.invariant-loop-site
-invariant-loop-site l = list_any (λ site. nat_lt 0 site.links) (drop l.site-index l.mode.sites) ≡ list_any (λ site. nat_lt 0 site.links) l.mode.sites
+invariant-loop-site l = list_any (λ site. nat_lt 0 site.selections) (drop l.site-index l.mode.sites) ≡ list_any (λ site. nat_lt 0 site.selections) l.mode.sites

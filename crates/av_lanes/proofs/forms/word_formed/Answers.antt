@@ -1,7 +1,7 @@
 use Rattle.std.proofs.Common.{◌≡◌, ◌∙◌, ℕ, List, ap, get_or, subst, sym}
 use Rattle.av_base.specs.Words.{sum, product}
 use Rattle.av_clock.specs.Gates.{gate_word, reading_word}
-use Rattle.av_lanes.specs.declared.forms.Form.{Form}
+use Rattle.av_lanes.specs.declared.forms.GateForm.{GateForm}
 use Rattle.av_lanes.specs.Seen.{lane}
 use Rattle.av_lanes.specs.inner.Forms.{gate_of, IsMasked}
 use Rattle.av_lanes.proofs.GateLanes.{of_two}
@@ -13,7 +13,7 @@ returns c k lt =
     let words = c.args.words.now in
     let ws = lane k words in
     let at : List ℕ → ℕ = λ xs. get_or xs k 0 in
-    let P : Form → Type 0 = λ form. at c.match-form.result ≡ gate_word ws (gate_of form) in
+    let P : GateForm → Type 0 = λ form. at c.match-form.result ≡ gate_word ws (gate_of form) in
     elim c.match-form.branch [
       | in-Sum w ↦
           let is = subst IsMasked w.in-Sum.is c.requires.masked in

@@ -3,7 +3,7 @@ use Rattle.std.specs.Prelude.{slice_get}
 use Rattle.std.proofs.lemmas.List.{length-map}
 use Rattle.std.proofs.lemmas.Result.{on_ok_weaker}
 use Rattle.av_flat.specs.Trees.{Piece, view_piece, view_system, view_variable}
-use Rattle.av_space.specs.declared.stretch.Reading.{Reading}
+use Rattle.av_space.specs.declared.stretch.TapReading.{TapReading}
 use Rattle.av_space.specs.Taps.{node_place}
 use Rattle.av_space.specs.inner.Sites.{tap_of}
 use Rattle.av_space.specs.inner.Stretches.{HasLinks, IsAt, Told, AreByCycle}
@@ -55,5 +55,5 @@ returns c =
     (view_variable c.args.consumer.now.var.now) c.args.consumer.now.slots.now c.requires.consumer (tap_of c.args.site.now) c.requires.site c.piece.result c.piece.ensures (view_piece c.piece_at-piece.result.now) c.piece_at-piece.ensures in
     on_ok_weaker c.site_stretches.result
     (λ h. site_links c.args.timed.now c.args.layout.now c.requires.legal c.requires.layout p c.args.number c.args.consumer.now.node (tap_of c.args.site.now) (view_piece c.piece_at-piece.result.now) c.args.consumer.now.slots.now site
-    c.in_ok-readings.readings c.in_ok-readings.ensures old new (subst (λ (rs : List Reading). HasLinks (Told rs) (IsAt p c.args.number) old new) c.as_slice.ensures h))
+    c.in_ok-readings.readings c.in_ok-readings.ensures old new (subst (λ (rs : List TapReading). HasLinks (Told rs) (IsAt p c.args.number) old new) c.as_slice.ensures h))
     c.site_stretches.ensures

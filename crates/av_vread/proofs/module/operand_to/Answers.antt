@@ -2,7 +2,7 @@ use Rattle.std.proofs.Common.{◌≡◌, Some, None, map, sym, ap, subst, ◌∙
 use Rattle.std.specs.Prelude.{IfOk}
 use Rattle.av_net.specs.declared.operation.Operand.TheVariants.{Name}
 use Rattle.av_net.specs.Rows.{operand_or}
-use Rattle.av_vparse.specs.declared.parsed.Link.{Link}
+use Rattle.av_vparse.specs.declared.parsed.PortLink.{PortLink}
 use Rattle.av_vparse.specs.Said.{said_link}
 use Rattle.av_vread.specs.inner.Numbered.{place_of}
 use Rattle.av_vread.proofs.PlacedInstances.{link_there, link_none, link_within}
@@ -29,7 +29,7 @@ returns-in-Some c =
     let name : key ≡ c.args.port.now.name = c.as_bytes.ensures.value ∙ c.as_str.ensures in
     let there : place_of key (map said_link links) ≡ Some c.in-Some.place = sym (c.requires key) ∙ sym c.get.ensures ∙ c.in-Some.is in
     let named : place_of c.args.port.now.name (map said_link links) ≡ Some c.in-Some.place = ap (λ q. place_of q (map said_link links)) (sym name) ∙ there in
-    let same = ap (λ (l : Link). l.operand) (sym c.index-links-place.is) ∙ sym (ap operand_or (link_there links c.args.port.now.name c.in-Some.place link named c.index-links-place.is)) in
+    let same = ap (λ (l : PortLink). l.operand) (sym c.index-links-place.is) ∙ sym (ap operand_or (link_there links c.args.port.now.name c.in-Some.place link named c.index-links-place.is)) in
     subst (λ z. IfOk c.copied.result (λ operand. operand ≡ z)) same c.copied.ensures
 
 pub returns-in_ok-new-in-None : goal.returns-in_ok-new-in-None

@@ -2,7 +2,7 @@ use Rattle.std.proofs.Common.{◌∙◌, ◌-◌, ℕ, refl, sym, ap, ap₂, ari
 use Rattle.av_base.proofs.Lists.{some_is}
 use Rattle.av_space.proofs.Elements.{in_range}
 use Rattle.av_kinds.specs.declared.program.Inlet.TheVariants.{Pipe}
-use Rattle.av_kinds.specs.declared.program.Source.TheVariants.{Line}
+use Rattle.av_kinds.specs.declared.program.WordSource.TheVariants.{Line}
 use Rattle.av_build.specs.declared.blueprint.CellPlan.{CellPlan}
 use Rattle.av_build.proofs.HelperSearch.{helper_between}
 use Rattle.av_build.proofs.Pairwise.{element_of}
@@ -32,6 +32,6 @@ returns c =
     record {
       inlet = λ other is_other. ap₂ (λ (q first : ℕ). Pipe (q - first)) c.helper_lane-lane.ensures (ap (λ (x : CellPlan). x.lanes.first) (sym c.index-as_slice-spot.is ∙ some_is plan other (sym is ∙ is_other)));
       width = refl;
-      links = c.new.ensures;
+      selections = c.new.ensures;
       otherwise = ap (λ (q : ℕ). Line q 0) c.helper_lane-lane.ensures;
     }

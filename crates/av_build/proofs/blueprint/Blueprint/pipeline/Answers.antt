@@ -24,8 +24,8 @@ planned_spot-requires-clause-spot c =
     c.as_slice-2.result.now c.as_slice-2.ensures c.index-as_slice-helper.result c.index-as_slice-helper.is at refl in
     (spot_at b.array c.requires.blueprint.array c.args.cell has.plan.pieces (c.requires.blueprint.plans.pieces c.args.cell has.plan has.is_plan) c.args.helper.piece at is_at).2
 
-pub hand_modes-requires-clause-helper : goal.hand_modes-requires-clause-helper
-hand_modes-requires-clause-helper c =
+pub pipeline_modes-requires-clause-helper : goal.pipeline_modes-requires-clause-helper
+pipeline_modes-requires-clause-helper c =
     let at = c.in_ok-spot.spot in
     let is_at = piece_is c.args.self.now c.requires.blueprint c.args.cell c.args.helper c.requires.helper c.as_slice.result.now c.index-as_slice-cell.result c.as_slice.ensures c.index-as_slice-cell.is
     c.as_slice-2.result.now c.as_slice-2.ensures c.index-as_slice-helper.result c.index-as_slice-helper.is at c.in_ok-spot.ensures in
@@ -56,5 +56,5 @@ returns c =
     let at = c.in_ok-spot.spot in
     let is_at = piece_is c.args.self.now c.requires.blueprint p h c.requires.helper c.as_slice.result.now c.index-as_slice-cell.result c.as_slice.ensures c.index-as_slice-cell.is
     c.as_slice-2.result.now c.as_slice-2.ensures c.index-as_slice-helper.result c.index-as_slice-helper.is at c.in_ok-spot.ensures in
-    lane_built c.args.self.now c.requires.blueprint p h c.requires.helper c.args.counter at is_at (map mode_of c.in_ok-hand_modes.field-0) c.in_ok-hand_modes.ensures
-    (lane_of (record { home = p; rank = h.number + 1; width = at.var.now.width; modes = c.in_ok-hand_modes.field-0; length = c.line_length.result })) refl (omega arith) refl refl c.line_length.ensures
+    lane_built c.args.self.now c.requires.blueprint p h c.requires.helper c.args.counter at is_at (map mode_of c.in_ok-pipeline_modes.field-0) c.in_ok-pipeline_modes.ensures
+    (lane_of (record { home = p; rank = h.number + 1; width = at.var.now.width; modes = c.in_ok-pipeline_modes.field-0; length = c.line_length.result })) refl (omega arith) refl refl c.line_length.ensures

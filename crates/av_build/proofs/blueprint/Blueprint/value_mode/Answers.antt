@@ -5,13 +5,13 @@ use Rattle.av_flat.specs.Points.{has}
 use Rattle.av_space.specs.declared.spots.Site.{Site}
 use Rattle.av_space.specs.declared.spots.Spot.{Spot}
 use Rattle.av_space.proofs.Elements.{in_range}
-use Rattle.av_kinds.specs.declared.program.Interval.{Interval}
+use Rattle.av_kinds.specs.declared.program.Window.{Window}
 use Rattle.av_kinds.specs.Counters.{count_in}
 use Rattle.av_kinds.specs.Written.{work_of}
 use Rattle.av_build.specs.declared.blueprint.CellPlan.{CellPlan}
-use Rattle.av_build.specs.declared.intervals.Mark.{Mark}
+use Rattle.av_build.specs.declared.windows.CounterMark.{CounterMark}
 use Rattle.av_build.specs.inner.Blueprints.{seen, spots_on}
-use Rattle.av_build.specs.inner.Intervals.{intervals_by}
+use Rattle.av_build.specs.inner.Windows.{windows_by}
 use Rattle.av_build.specs.inner.Lanes.{IsValueWork}
 use Rattle.av_build.specs.inner.Orders.{IsInOrder}
 use Rattle.av_build.specs.inner.Programmed.{IsModeFor}
@@ -98,7 +98,7 @@ returns c = λ other spot is_other is_spot.
     let work = work_of c.in_ok-work.field-0 in
     let order = subst (λ l. IsInOrder count slots l) (sym c.as_slice-4.ensures) c.in_ok-order.ensures in
     let mode = piece_mode b is p plan here k at is_at slots c.slots-all.ensures count c.as_slice-4.result.now order c.in_ok-marks.marks c.in_ok-marks.ensures work in
-    let intervals = c.in_ok-intervals.ensures ∙ ap (λ (l : List Mark). intervals_by l) c.as_slice-5.ensures in
+    let windows = c.in_ok-windows.ensures ∙ ap (λ (l : List CounterMark). windows_by l) c.as_slice-5.ensures in
     let active =
-    subst (λ (l : List Interval). IsModeFor (seen b.array) count p (λ m z. m ≡ at.node) (λ m z. IsTrue (has at.piece.now.domain z)) (record { intervals = l; work = work })) (sym intervals) mode in
-    subst (λ (x : Spot). IsValueWork b c.args.counter x work × IsModeFor (seen b.array) count p (λ m z. m ≡ x.node) (λ m z. IsTrue (has x.piece.now.domain z)) (record { intervals = c.in_ok-intervals.field-0; work = work })) one (c.in_ok-work.ensures, active)
+    subst (λ (l : List Window). IsModeFor (seen b.array) count p (λ m z. m ≡ at.node) (λ m z. IsTrue (has at.piece.now.domain z)) (record { windows = l; work = work })) (sym windows) mode in
+    subst (λ (x : Spot). IsValueWork b c.args.counter x work × IsModeFor (seen b.array) count p (λ m z. m ≡ x.node) (λ m z. IsTrue (has x.piece.now.domain z)) (record { windows = c.in_ok-windows.field-0; work = work })) one (c.in_ok-work.ensures, active)

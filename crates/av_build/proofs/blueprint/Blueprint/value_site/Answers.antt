@@ -2,9 +2,9 @@ use Rattle.std.proofs.Common.{◌∙◌, List, None, sym, ap, subst}
 use Rattle.std.proofs.lemmas.Result.{IfOk-weaker}
 use Rattle.av_flat.specs.declared.flat.Flat.{Flat}
 use Rattle.av_flat.specs.Trees.{Tree, view, view_variable, view_system}
-use Rattle.av_space.specs.declared.tap.Place.{Place}
+use Rattle.av_space.specs.declared.tap.ReadingPlace.{ReadingPlace}
 use Rattle.av_space.specs.Spots.{system_of}
-use Rattle.av_space.specs.Taps.{Handing}
+use Rattle.av_space.specs.Taps.{Pipeline}
 use Rattle.av_history.specs.Widths.{read_width}
 use Rattle.av_build.specs.declared.moments.Moment.{Moment}
 use Rattle.av_build.specs.inner.Blueprints.{HasHelper, spot_of}
@@ -20,18 +20,18 @@ pipe_site-requires-clause-helper c =
     let b = c.args.self.now in
     let at = c.args.spot.now in
     let on = c.requires.place in
-    let h = c.in-Some.handing in
-    subst (λ j. HasHelper b at.cell j) (ap (λ (g : Handing). g.number) (sym c.handing.view_is)) (helper_on b c.requires.blueprint at on.sites on.spot_on on.index c.args.place.now on.is_place h c.in-Some.is)
+    let h = c.in-Some.pipeline in
+    subst (λ j. HasHelper b at.cell j) (ap (λ (g : Pipeline). g.number) (sym c.pipeline.view_is)) (helper_on b c.requires.blueprint at on.sites on.spot_on on.index c.args.place.now on.is_place h c.in-Some.is)
 
 pub returns-in-Some : goal.returns-in-Some
 returns-in-Some c = λ plan is_plan.
     let b = c.args.self.now in
     let at = c.args.spot.now in
     let on = c.requires.place in
-    let h = c.in-Some.handing in
+    let h = c.in-Some.pipeline in
     let place = c.args.place.now in
     piped_site b c.requires.blueprint c.args.counter at (spot_there b c.requires.blueprint at on.sites on.spot_on) place (site_at b c.requires.blueprint at on.sites on.spot_on on.index place on.is_place) plan is_plan
-    (some_slots b c.requires.blueprint at on.sites on.spot_on) h c.in-Some.is c.pipe_site.result (subst (λ j. IsPipeSite b (spot_of at) j c.pipe_site.result) (ap (λ (g : Handing). g.number) c.handing.view_is) c.pipe_site.ensures)
+    (some_slots b c.requires.blueprint at on.sites on.spot_on) h c.in-Some.is c.pipe_site.result (subst (λ j. IsPipeSite b (spot_of at) j c.pipe_site.result) (ap (λ (g : Pipeline). g.number) c.pipeline.view_is) c.pipe_site.ensures)
 
 pub moments-requires-clause-spot : goal.moments-requires-clause-spot
 moments-requires-clause-spot c = spot_there c.args.self.now c.requires.blueprint c.args.spot.now c.requires.place.sites c.requires.place.spot_on
@@ -45,7 +45,7 @@ width_read-width-requires c =
     let at = c.args.spot.now in
     let on = c.requires.place in
     let place = c.args.place.now in
-    let tree = ap (λ (x : Place). view x.tree) c.read.view_is in
+    let tree = ap (λ (x : ReadingPlace). view x.tree) c.read.view_is in
     subst (λ (f : Flat). HasVariable (view_system f) (view c.read.inside.tree.now)) (sym c.requires.flat)
     (subst (λ (t : Tree). HasVariable (system_of b.array) t) (sym tree)
     (variable_there b c.requires.blueprint at (spot_there b c.requires.blueprint at on.sites on.spot_on) (some_slots b c.requires.blueprint at on.sites on.spot_on) place (site_at b c.requires.blueprint at on.sites on.spot_on on.index place on.is_place)))
@@ -60,7 +60,7 @@ returns c =
     let inlet = c.inlet_of.result in
     let width = c.width_read-width.result in
     let own = view c.read.inside.tree.now in
-    let tree = ap (λ (x : Place). view x.tree) c.read.view_is in
+    let tree = ap (λ (x : ReadingPlace). view x.tree) c.read.view_is in
     let inlet_is = c.inlet_of.ensures ∙ ap (λ (f : Flat). inlet_by (view_system f) (λ j. j) None own) c.requires.flat ∙ ap (λ (t : Tree). inlet_by (system_of b.array) (λ j. j) None t) tree in
     let width_is = c.width_read-width.ensures ∙ ap (λ (f : Flat). read_width (view_system f) (view_variable at.var.now).width None own) c.requires.flat ∙ ap (λ (t : Tree). read_width (system_of b.array) (view_variable at.var.now).width None t) tree in
     IfOk-weaker c.site.result _ _ (λ site e plan is_plan.

@@ -1,6 +1,6 @@
 use Rattle.std.proofs.Common.{◌≡◌, ℤ, List, [], ◌∷◌, ◌++◌, sym, ap, subst, ◌∙◌, arith, FitsSigned, to_z, of_z, to_z-of_z, w64}
 use Rattle.std.proofs.lemmas.Int.{ints, fits_signed_from_abs}
-use Rattle.av_data.specs.inner.Sayings.{Keeps, signed_value}
+use Rattle.av_data.specs.inner.Bindings.{Keeps, signed_value}
 use Rattle.av_data.proofs.Entered.{kept_more, far_full, far_great}
 use Rattle.av_data.proofs.entries.Entries.add.Goals as goal
 

@@ -5,4 +5,4 @@ use Rattle.av_kinds.proofs.interface.Interface.add_mode.Goals as goal
 
 pub returns-clause-ports : goal.returns-clause-ports
 returns-clause-ports c =
-    tested_added c.args.self.now c.add_datapath.new.self (mode_shape_of c.args.mode.now) c.mode.inside.intervals c.add_bounds.new.ports (ap (λ (m : ModeShapeMade). m.intervals) c.mode.view_is) c.in_ok-datapath.ensures.ports c.in_ok-add_bounds.ensures
+    tested_added c.args.self.now c.add_datapath.new.self (mode_shape_of c.args.mode.now) c.mode.inside.windows c.add_bounds.new.ports (ap (λ (m : ModeShapeMade). m.windows) c.mode.view_is) c.in_ok-datapath.ensures.ports c.in_ok-add_bounds.ensures

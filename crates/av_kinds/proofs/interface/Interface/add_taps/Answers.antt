@@ -2,4 +2,4 @@ use Rattle.av_kinds.proofs.InterfaceSteps.{taps_added}
 use Rattle.av_kinds.proofs.interface.Interface.add_taps.Goals as goal
 
 pub returns-clause-ports : goal.returns-clause-ports
-returns-clause-ports c = taps_added c.args.self.now c.args.width c.args.links c.add_words.new.ports c.requires c.in_ok-add_words.ensures
+returns-clause-ports c = taps_added c.args.self.now c.args.width c.args.selections c.add_words.new.ports c.requires c.in_ok-add_words.ensures

@@ -3,7 +3,7 @@ use Rattle.std.specs.Prelude.{All, AllPairs, Contains}
 use Rattle.av_space.specs.declared.cells.Cell.{Cell}
 use Rattle.av_space.specs.declared.cells.InPort.{InPort}
 use Rattle.av_space.specs.Ports.{IsPortBefore}
-use Rattle.av_space.specs.Sites.{PlaceMade}
+use Rattle.av_space.specs.Sites.{ReadingPlaceMade}
 use Rattle.av_space.specs.Spots.{cells_of}
 use Rattle.av_space.proofs.Elements.{in_range}
 use Rattle.av_space.proofs.SpotReadings.{port_there}
@@ -29,7 +29,7 @@ port_at-requires-clause-cell c =
 pub port_at-requires-clause-there : goal.port_at-requires-clause-there
 port_at-requires-clause-there c =
     let at = c.args.spot.now in
-    let site : c.args.site.now.place.site ≡ c.place.inside.site = ap (λ (p : PlaceMade). p.site) (sym c.place.view_is) in
+    let site : c.args.site.now.place.site ≡ c.place.inside.site = ap (λ (p : ReadingPlaceMade). p.site) (sym c.place.view_is) in
     subst (λ (ports : List InPort). Contains ports (record { cell = at.cell; piece = at.number; site = c.place.inside.site })) (sym c.as_slice.ensures)
     (subst (λ (j : ℕ). Contains c.args.self.now.cells.now.inputs (record { cell = at.cell; piece = at.number; site = j })) site
     (port_there c.args.self.now c.requires.array at c.requires.spot c.args.site.now c.requires.site.is c.args.slot.now c.requires.slot c.requires.site c.requires.entered))

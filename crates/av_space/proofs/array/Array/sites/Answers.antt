@@ -5,9 +5,9 @@ use Rattle.std.proofs.lemmas.Option.{slice_get-get_or}
 use Rattle.av_flat.specs.declared.timed.Helper.{Helper}
 use Rattle.av_flat.specs.Trees.{view}
 use Rattle.av_space.specs.declared.spots.Site.{Site}
-use Rattle.av_space.specs.Taps.{Place, places_in}
-use Rattle.av_space.specs.Sites.{PlaceMade, place_of}
-use Rattle.av_space.specs.Spots.{handing_by}
+use Rattle.av_space.specs.Taps.{ReadingPlace, places_in}
+use Rattle.av_space.specs.Sites.{ReadingPlaceMade, place_of}
+use Rattle.av_space.specs.Spots.{pipeline_by}
 use Rattle.av_space.proofs.array.Array.sites.Goals as goal
 use Rattle.av_base.proofs.Among.{among_at}
 use Rattle.av_base.proofs.Lists.{get_mapped}
@@ -19,13 +19,13 @@ returns c =
     let items = c.as_slice-place-items.result.now in
     let all : take c.loop-place.place-index items ≡ items = take_all c.loop-place.place-index items c.loop-place-test.false in
     let places : map (λ (site : Site). place_of site.place) sites ≡ places_in at.number 0 (view at.piece.now.tree) =
-    c.loop-place.invariant.places ∙ ap (λ (l : List PlaceMade). map place_of l) (all ∙ c.as_slice-place-items.ensures) ∙ c.in_ok-places.ensures in
+    c.loop-place.invariant.places ∙ ap (λ (l : List ReadingPlaceMade). map place_of l) (all ∙ c.as_slice-place-items.ensures) ∙ c.in_ok-places.ensures in
     record {
       places = places;
       each = λ k d l. record {
         is_place = (let x = get_or sites k d in
-            subst (λ (ps : List Place). Contains ps (place_of x.place)) places
+            subst (λ (ps : List ReadingPlace). Contains ps (place_of x.place)) places
             (among_at (map (λ (site : Site). place_of site.place) sites) k (place_of x.place) (get_mapped (λ (site : Site). place_of site.place) sites k x (slice_get-get_or sites k d l))));
-        handing = subst (λ (hs : List Helper). (get_or sites k d).handing ≡ handing_by hs at.place (place_of (get_or sites k d).place) (view (get_or sites k d).place.tree)) c.as_slice-helpers.ensures (c.loop-place.invariant.handings k d l);
+        pipeline = subst (λ (hs : List Helper). (get_or sites k d).pipeline ≡ pipeline_by hs at.place (place_of (get_or sites k d).place) (view (get_or sites k d).place.tree)) c.as_slice-helpers.ensures (c.loop-place.invariant.pipelines k d l);
       };
     }

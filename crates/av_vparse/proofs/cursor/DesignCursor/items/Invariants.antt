@@ -1,0 +1,12 @@
+use Rattle.std.proofs.Common.{length, map}
+use Rattle.av_vparse.specs.inner.Lexing.{views}
+use Rattle.av_vparse.specs.inner.Reading.{begins_item, item_at}
+use Rattle.av_vparse.specs.Said.{said_item}
+use Rattle.av_vparse.proofs.Many.{Goes}
+use Rattle.av_vparse.proofs.cursor.DesignCursor.items.Given as goal
+
+abbrev pub invariant-loop-self : goal.invariant-loop-self
+invariant-loop-self l = Goes (begins_item) (item_at) (views l.fn.self.rest.now) (map said_item l.found) (views l.self.rest.now)
+
+abbrev pub decreases-loop-self : goal.decreases-loop-self
+decreases-loop-self l = length l.self.rest.now
