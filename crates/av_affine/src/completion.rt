@@ -28,7 +28,8 @@ pub fn complete(vector: &Point) -> Placed
     requires not_zero { Any (λ x. x ≢ pos 0) vector.now }
     requires small { AtMost 4 vector.now }
 
-    ensures sizes { (result.m.size ≡ length vector.now) × (result.inverse.size ≡ length vector.now) }
+    ensures sizes { (result.m.size ≡ length vector.now)
+        × (result.inverse.size ≡ length vector.now) }
     ensures gcd { pos 0 <ℤ result.gcd }
     ensures vector { vector.now ≡ map (λ x. result.gcd *ℤ x) (first_row result.m) }
     ensures primitive { IsGcdOf (first_row result.m) 1 }
@@ -49,7 +50,8 @@ fn completion_of(vector: &[i64], gcd: i64) -> Placed
     requires small { AtMost 4 vector.now }
 
     ensures gcd { result.gcd ≡ gcd }
-    ensures sizes { (result.m.size ≡ length vector.now) × (result.inverse.size ≡ length vector.now) }
+    ensures sizes { (result.m.size ≡ length vector.now)
+        × (result.inverse.size ≡ length vector.now) }
     ensures first { first_row result.m ≡ vector.now }
     ensures rule { IsCompletion vector.now (rows_of result.m) }
 

@@ -39,7 +39,8 @@ fn coefficient(form: &Form, inner: &Map, index: usize) -> i64
     requires index { index < 4 }
     requires form { IsWithinLimits form.now }
     requires inner { All IsWithinLimits inner.now.rows }
-    ensures value { result ≡ (if nat_lt index inner.now.from then dot form.now.coef (coefficients_of index inner.now.rows) else pos 0) }
+    ensures value { result ≡ (if nat_lt index inner.now.from
+        then dot form.now.coef (coefficients_of index inner.now.rows) else pos 0) }
     ensures small { unsigned_abs result ≤ 2 ^ 32 }
 {
     if index < inner.from as usize {

@@ -37,7 +37,8 @@ use std::test::Fail;
 fn array_of(alloc: Global, text: &str, sizes: &[(&str, i64)]) -> Result<MappedSystem, Fail>
     ensures legal { IfOk result (λ array. IsLegal array.timed) }
     ensures whole { IfOk result (λ array. IsWhole array.timed array.cells) }
-    ensures within { IfOk result (λ array. (f : Fault) → IsSpaceFault array.timed f → f ≡ fault.Memory) }
+    ensures within { IfOk result (λ array. (f : Fault)
+        → IsSpaceFault array.timed f → f ≡ fault.Memory) }
 {
     let sizes = size_list(alloc, sizes)?;
     let width = Width::new(8).ok_or("a width")?;

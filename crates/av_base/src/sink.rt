@@ -14,7 +14,8 @@ pub trait Sink {
         requires { 0 < length piece.now }
         ensures least { IfOk result (λ n. 0 < n) }
         ensures most { IfOk result (λ n. n ≤ length piece.now) }
-        ensures added { IfOk result (λ n. Adds (state self.old).held (state self.new).held (take n piece.now)) }
+        ensures added { IfOk result (λ n.
+            Adds (state self.old).held (state self.new).held (take n piece.now)) }
         ensures failed { OnErr result ((state self.new).held ≡ (state self.old).held) }
         ensures cause { OnErr result (HasRisen (state self.old).faults (state self.new).faults) }
         ensures later { (state self.old).faults ≤ (state self.new).faults };
@@ -29,7 +30,8 @@ pub struct WriteFault;
 pub fn write_all<K: Sink>(sink: &mut K, bytes: &[u8]) -> Result<(), WriteFault>
     ensures added { OnOk result (Adds (K.state sink.old).held (K.state sink.new).held bytes.now) }
     ensures fault { IsErr result → HasRisen (K.state sink.old).faults (K.state sink.new).faults }
-    ensures front { OnErr result (AddsPrefix (K.state sink.old).held (K.state sink.new).held bytes.now) }
+    ensures front { OnErr result
+        (AddsPrefix (K.state sink.old).held (K.state sink.new).held bytes.now) }
     ensures later { (K.state sink.old).faults ≤ (K.state sink.new).faults }
 {
     let mut done = 0;

@@ -62,8 +62,10 @@ pub fn read_all<S: Source>(alloc: Global, source: &mut S, limit: usize) -> Resul
     ensures bytes { IfOk result (λ bytes. Takes (S.left source.old) (S.left source.new) bytes) }
     ensures end { OnOk result (IsAtEnd (S.left source.new)) }
     ensures within { IfOk result (λ bytes. length bytes ≤ limit) }
-    ensures too_long { IsErrOf result ReadAll.TooLong → TakesMore (S.left source.old) (S.left source.new) limit }
-    ensures fault { IsErrOf result ReadAll.ReadFault → HasRisen (S.faults source.old) (S.faults source.new) }
+    ensures too_long { IsErrOf result ReadAll.TooLong
+        → TakesMore (S.left source.old) (S.left source.new) limit }
+    ensures fault { IsErrOf result ReadAll.ReadFault
+        → HasRisen (S.faults source.old) (S.faults source.new) }
     ensures front { OnErr result (TakesSome (S.left source.old) (S.left source.new)) }
     ensures later { S.faults source.old ≤ S.faults source.new }
 {

@@ -25,7 +25,13 @@ impl Model for MemSource {
 
     ghost Value = { Feed };
 
-    ghost view = { λ s. record { left = drop s.taken s.bytes; per_call = s.per_call; failing = s.failing; calls = s.calls; faults = s.faults } };
+    ghost view = { λ s. record {
+      left = drop s.taken s.bytes;
+      per_call = s.per_call;
+      failing = s.failing;
+      calls = s.calls;
+      faults = s.faults;
+    } };
 
     ghost invariant = { λ s. (s.taken ≤ length s.bytes) × (0 < s.per_call) };
 }
@@ -34,7 +40,13 @@ impl MemSource {
     /// The source of these bytes.
     pub fn new(bytes: List<u8>, per_call: usize, failing: List<u64>) -> MemSource
         requires { 0 < per_call }
-        ensures { result ≡ record { left = bytes; per_call = per_call; failing = failing; calls = 0; faults = 0 } }
+        ensures { result ≡ record {
+          left = bytes;
+          per_call = per_call;
+          failing = failing;
+          calls = 0;
+          faults = 0;
+        } }
     {
         MemSource {
             bytes,
@@ -55,15 +67,18 @@ impl Source for MemSource {
     fn read(&mut self, into: &mut [u8]) -> Result<usize, Failed>
         requires { 0 < length into.old }
         ensures most { IfOk result (λ n. n ≤ length into.old) }
-        ensures taken { IfOk result (λ n. Takes (Some self.old.left) (Some self.new.left) (take n into.new)) }
+        ensures taken { IfOk result (λ n.
+            Takes (Some self.old.left) (Some self.new.left) (take n into.new)) }
         ensures end { IfOk result (λ n. n ≡ 0 → IsAtEnd (Some self.new.left)) }
         ensures failed { OnErr result (Some self.new.left ≡ Some self.old.left) }
         ensures cause { OnErr result (HasRisen self.old.faults self.new.faults) }
         ensures later { self.old.faults ≤ self.new.faults }
         ensures listed { IsErr result ↔ Contains self.old.failing self.old.calls }
-        ensures amount { IfOk result (λ n. n ≡ min (min (length self.old.left) self.old.per_call) (length into.old)) }
+        ensures amount { IfOk result (λ n.
+            n ≡ min (min (length self.old.left) self.old.per_call) (length into.old)) }
         ensures counted { self.new.calls ≡ next_count self.old.calls }
-        ensures kept { (self.new.per_call ≡ self.old.per_call) × (self.new.failing ≡ self.old.failing) }
+        ensures kept { (self.new.per_call ≡ self.old.per_call)
+            × (self.new.failing ≡ self.old.failing) }
         ensures fine { OnOk result (self.new.faults ≡ self.old.faults) }
         ensures fault { OnErr result (self.new.faults ≡ next_count self.old.faults) }
     {
@@ -106,7 +121,14 @@ impl Model for MemSink {
 
     ghost Value = { Store };
 
-    ghost view = { λ s. record { held = take s.used s.room.items; room = length s.room.items - s.used; per_call = s.per_call; failing = s.failing; calls = s.calls; faults = s.faults } };
+    ghost view = { λ s. record {
+      held = take s.used s.room.items;
+      room = length s.room.items - s.used;
+      per_call = s.per_call;
+      failing = s.failing;
+      calls = s.calls;
+      faults = s.faults;
+    } };
 
     ghost invariant = { λ s. (s.used ≤ length s.room.items) × (0 < s.per_call) };
 }
@@ -120,7 +142,14 @@ impl MemSink {
         failing: List<u64>,
     ) -> Result<MemSink, Memory>
         requires { 0 < per_call }
-        ensures { IfOk result (λ sink. sink ≡ record { held = []; room = room; per_call = per_call; failing = failing; calls = 0; faults = 0 }) }
+        ensures { IfOk result (λ sink. sink ≡ record {
+          held = [];
+          room = room;
+          per_call = per_call;
+          failing = failing;
+          calls = 0;
+          faults = 0;
+        }) }
     {
         Ok(MemSink {
             room: vec![in alloc; 0u8; room]?,
@@ -147,14 +176,18 @@ impl Sink for MemSink {
         requires { 0 < length piece.now }
         ensures least { IfOk result (λ n. 0 < n) }
         ensures most { IfOk result (λ n. n ≤ length piece.now) }
-        ensures added { IfOk result (λ n. Adds (Some self.old.held) (Some self.new.held) (take n piece.now)) }
+        ensures added { IfOk result (λ n.
+            Adds (Some self.old.held) (Some self.new.held) (take n piece.now)) }
         ensures failed { OnErr result (Some self.new.held ≡ Some self.old.held) }
         ensures cause { OnErr result (HasRisen self.old.faults self.new.faults) }
         ensures later { self.old.faults ≤ self.new.faults }
-        ensures listed { IsErr result ↔ ((self.old.room ≡ 0) ⊎ Contains self.old.failing self.old.calls) }
-        ensures amount { IfOk result (λ n. n ≡ min (min self.old.room self.old.per_call) (length piece.now)) }
+        ensures listed { IsErr result
+            ↔ ((self.old.room ≡ 0) ⊎ Contains self.old.failing self.old.calls) }
+        ensures amount { IfOk result (λ n.
+            n ≡ min (min self.old.room self.old.per_call) (length piece.now)) }
         ensures counted { self.new.calls ≡ next_count self.old.calls }
-        ensures kept { (self.new.per_call ≡ self.old.per_call) × (self.new.failing ≡ self.old.failing) }
+        ensures kept { (self.new.per_call ≡ self.old.per_call)
+            × (self.new.failing ≡ self.old.failing) }
         ensures fine { OnOk result (self.new.faults ≡ self.old.faults) }
         ensures fault { OnErr result (self.new.faults ≡ next_count self.old.faults) }
         ensures room { IfOk result (λ n. self.new.room + n ≡ self.old.room) }

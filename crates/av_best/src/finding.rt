@@ -94,7 +94,8 @@ pub fn least(alloc: Global, flat: &Flat, edges: &[Edge], reach: Reach) -> Result
 
     // Else the fault is the first that the system has, and where it has one it is answered, unless memory runs out.
     ensures fault { IfErr result (IsFault (view_system flat.now) reach.size) }
-    ensures refused { (f : FaultSeen) → IsFault (view_system flat.now) reach.size f → f ≢ fault.Memory → (result ≡ Err f) ⊎ (result ≡ Err fault.Memory) }
+    ensures refused { (f : FaultSeen) → IsFault (view_system flat.now) reach.size f
+        → f ≢ fault.Memory → (result ≡ Err f) ⊎ (result ≡ Err fault.Memory) }
 {
     let nodes = all_nodes(alloc, flat)?;
     let number = joint_number(alloc, flat, reach, &nodes)?;

@@ -33,7 +33,8 @@ pub(crate) fn joint_number(
     nodes: &[u32],
 ) -> Result<u128, Memory>
     requires { nodes.now ≡ every_node (view_system flat.now) }
-    ensures { IfOk result (λ n. n ≡ min (joint_candidates (view_system flat.now) reach.size) (2 ^ 128 - 1)) }
+    ensures { IfOk result (λ n.
+        n ≡ min (joint_candidates (view_system flat.now) reach.size) (2 ^ 128 - 1)) }
 {
     let dims = dimensions(alloc, flat)?;
     Ok(candidates_of(nodes, &dims, 2 * reach.size as u128 + 1))

@@ -43,7 +43,8 @@ fn is_cheaper(
     requires linear { AreLinearParts (view_system _flat.now) _reach.size linear.now }
     requires spent { IsSpent (view_system _flat.now) linear.now nodes.now spent }
     requires best { IsChosen (view_system _flat.now) _reach.size best.now }
-    ensures { IfOk result (λ b. IsTrue b ↔ IsLess (cost (view_system _flat.now) nodes.now linear.now) (cost (view_system _flat.now) nodes.now best.now.parts.items)) }
+    ensures { IfOk result (λ b. IsTrue b ↔ IsLess (cost (view_system _flat.now)
+        nodes.now linear.now) (cost (view_system _flat.now) nodes.now best.now.parts.items)) }
 {
     if spent.left != best.price.left {
         return Ok(spent.left < best.price.left);
@@ -69,7 +70,8 @@ fn is_better(
     requires linear { AreLinearParts (view_system flat.now) reach.size linear.now }
     requires spent { IsSpent (view_system flat.now) linear.now nodes.now spent }
     requires best { IsSound (view_system flat.now) reach.size best.now }
-    ensures { IfOk result (λ b. IsTrue b ↔ IsAhead (view_system flat.now) cycles linear.now best.now) }
+    ensures { IfOk result (λ b. IsTrue b
+        ↔ IsAhead (view_system flat.now) cycles linear.now best.now) }
 {
     match best {
         None => Ok(true),
@@ -100,7 +102,8 @@ fn is_barred(
     requires spent { IsSpent (view_system _flat.now) _linear.now (take _level _nodes.now) spent }
     requires rest { IsFloor (view_system _flat.now) _reach.size (drop _level _nodes.now) rest }
     requires best { IsSound (view_system _flat.now) _reach.size best.now }
-    ensures { IsTrue result → IsBarred (view_system _flat.now) _reach.size _level _linear.now best.now }
+    ensures { IsTrue result
+        → IsBarred (view_system _flat.now) _reach.size _level _linear.now best.now }
 {
     let Some(found) = best else {
         return false;
@@ -134,10 +137,12 @@ fn leaf(
     requires linear { AreLinearParts (view_system flat.now) reach.size linear.now }
     requires spans { AreSpanned (view_system flat.now) (length nodes.now) linear.now spans.now }
     requires spent { IsSpent (view_system flat.now) linear.now nodes.now spent }
-    requires bound { IsBound (view_system flat.now) reach.size (length nodes.now) linear.now cycles }
+    requires bound { IsBound (view_system flat.now) reach.size
+        (length nodes.now) linear.now cycles }
     requires pool { All (IsWitness edges.now nodes.now) pool.old.items }
     requires best { IsSound (view_system flat.now) reach.size best }
-    ensures walked { IfOk result (HasWalked (view_system flat.now) reach.size (length nodes.now) linear.now best) }
+    ensures walked { IfOk result
+        (HasWalked (view_system flat.now) reach.size (length nodes.now) linear.now best) }
     ensures pool { IfOk result (λ new. All (IsWitness edges.now nodes.now) pool.new.items) }
 {
     if !is_better(alloc, flat, reach, nodes, linear, spent, cycles, &best)? {
@@ -188,8 +193,10 @@ pub(crate) fn walk(
     requires nodes { nodes.now ≡ all_nodes (view_system flat.now) }
     requires few { length nodes.now ≤ 1073741824 }
     requires lists { AreAllParts (view_system flat.now) reach.size nodes.now plan.now.lists }
-    requires prices { ArePricesTo (view_system flat.now) nodes.now (length nodes.now) plan.now.lists plan.now.prices }
-    requires floors { AreFloorsTo (view_system flat.now) reach.size nodes.now (length nodes.now) plan.now.floors.items }
+    requires prices { ArePricesTo (view_system flat.now) nodes.now
+        (length nodes.now) plan.now.lists plan.now.prices }
+    requires floors { AreFloorsTo (view_system flat.now) reach.size nodes.now
+        (length nodes.now) plan.now.floors.items }
     requires table { AreSpansTo (view_system flat.now) (length nodes.now) plan.now.lists table.now }
     requires level { level ≤ length nodes.now }
     requires linear { AreLinearParts (view_system flat.now) reach.size linear.old }
@@ -199,9 +206,11 @@ pub(crate) fn walk(
     requires bound { IsBound (view_system flat.now) reach.size level linear.old cycles }
     requires pool { All (IsWitness edges.now nodes.now) pool.old.items }
     requires best { IsSound (view_system flat.now) reach.size best }
-    ensures walked { IfOk result (HasWalked (view_system flat.now) reach.size level linear.old best) }
+    ensures walked { IfOk result
+        (HasWalked (view_system flat.now) reach.size level linear.old best) }
     ensures linear { IfOk result (λ new. linear.new ≡ linear.old) }
-    ensures spanned { IfOk result (λ new. AreSpanned (view_system flat.now) level linear.old spans.new) }
+    ensures spanned { IfOk result (λ new.
+        AreSpanned (view_system flat.now) level linear.old spans.new) }
     ensures pool { IfOk result (λ new. All (IsWitness edges.now nodes.now) pool.new.items) }
 {
     if level == nodes.len() {
@@ -263,8 +272,10 @@ fn walk_unless_barred(
     requires nodes { nodes.now ≡ all_nodes (view_system flat.now) }
     requires few { length nodes.now ≤ 1073741824 }
     requires lists { AreAllParts (view_system flat.now) reach.size nodes.now plan.now.lists }
-    requires prices { ArePricesTo (view_system flat.now) nodes.now (length nodes.now) plan.now.lists plan.now.prices }
-    requires floors { AreFloorsTo (view_system flat.now) reach.size nodes.now (length nodes.now) plan.now.floors.items }
+    requires prices { ArePricesTo (view_system flat.now) nodes.now
+        (length nodes.now) plan.now.lists plan.now.prices }
+    requires floors { AreFloorsTo (view_system flat.now) reach.size nodes.now
+        (length nodes.now) plan.now.floors.items }
     requires table { AreSpansTo (view_system flat.now) (length nodes.now) plan.now.lists table.now }
     requires level { level ≤ length nodes.now }
     requires linear { AreLinearParts (view_system flat.now) reach.size linear.old }
@@ -273,9 +284,11 @@ fn walk_unless_barred(
     requires spent { IsSpent (view_system flat.now) linear.old (take level nodes.now) spent }
     requires pool { All (IsWitness edges.now nodes.now) pool.old.items }
     requires best { IsSound (view_system flat.now) reach.size best }
-    ensures walked { IfOk result (HasWalked (view_system flat.now) reach.size level linear.old best) }
+    ensures walked { IfOk result
+        (HasWalked (view_system flat.now) reach.size level linear.old best) }
     ensures linear { IfOk result (λ new. linear.new ≡ linear.old) }
-    ensures spanned { IfOk result (λ new. AreSpanned (view_system flat.now) level linear.old spans.new) }
+    ensures spanned { IfOk result (λ new.
+        AreSpanned (view_system flat.now) level linear.old spans.new) }
     ensures pool { IfOk result (λ new. All (IsWitness edges.now nodes.now) pool.new.items) }
 {
     let Some(cycles) = bound(

@@ -148,7 +148,8 @@ fn add_cell<'a>(
     requires cell { cell < length (cells_of array.now) }
     ensures pieces { IfOk result (λ plan. ArePieces array.now cell plan.pieces) }
     ensures first { IfOk result (λ plan. plan.lanes.first ≡ length lanes.old) }
-    ensures value { IfOk result (λ plan. plan.lanes.value ≡ length lanes.old + length (helpers_on plan.pieces)) }
+    ensures value { IfOk result (λ plan.
+        plan.lanes.value ≡ length lanes.old + length (helpers_on plan.pieces)) }
     ensures lanes { IfOk result (λ plan. lanes.new ≡ lanes.old ++ own_lanes cell plan.pieces) }
 {
     let pieces = pieces_on(alloc, array, cell)?;

@@ -39,7 +39,8 @@ pub fn counting_modules(
     // The counter tells the computations of each cell apart.
     requires counter { IsCounter counter }
     requires apart { IsWithinCount timed.now cells.now counter }
-    ensures { IfOk result (λ made. IsCountingPlan timed.now cells.now counter (plan_of cells.now.listing made)) }
+    ensures { IfOk result (λ made.
+        IsCountingPlan timed.now cells.now counter (plan_of cells.now.listing made)) }
 {
     let program = program(alloc, timed, cells, counter)?;
     modules_of(alloc, counter, &program)

@@ -102,9 +102,13 @@ impl Blueprint<'_> {
         requires blueprint { IsBlueprint self.now }
         requires spot { IsSpot self.now.array spot.now }
         requires site { IsSiteOf self.now.array spot.now site.now }
-        requires slot { IsSlotIn self.now.array spot.now.cell spot.now.node spot.now.piece.now.domain slot.now }
-        requires entered { IsReadAt site.now.pipeline (view_piece spot.now.piece.now) slot.now.point }
-        ensures { IsOwnSource (seen self.now.array) (lanes_of self.now.cells) (spot_of spot.now) slot.now.point slot.now.cycle site.now.place.site site.now.pipeline (view site.now.place.tree) result }
+        requires slot { IsSlotIn self.now.array
+            spot.now.cell spot.now.node spot.now.piece.now.domain slot.now }
+        requires entered { IsReadAt site.now.pipeline
+            (view_piece spot.now.piece.now) slot.now.point }
+        ensures { IsOwnSource (seen self.now.array) (lanes_of self.now.cells)
+            (spot_of spot.now) slot.now.point slot.now.cycle site.now.place.site site.now.pipeline
+            (view site.now.place.tree) result }
     {
         match self.array.origin(spot, site, slot) {
             Origin::Port(port) => WordSource::Input(port),
@@ -132,7 +136,8 @@ impl Blueprint<'_> {
         requires plain { site.now.pipeline ≡ None }
         requires order { IsInOrder (count_in counter) spot.now.slots order.now }
         ensures { IfOk result (AreMoments (count_in counter) spot.now.slots order.now Always
-            (λ z c source. IsPlaceSource (seen self.now.array) (lanes_of self.now.cells) (spot_of spot.now) z c site.now.place.site (view site.now.place.tree) source)) }
+            (λ z c source. IsPlaceSource (seen self.now.array) (lanes_of self.now.cells)
+            (spot_of spot.now) z c site.now.place.site (view site.now.place.tree) source)) }
     {
         let slots = spot.slots.as_slice();
         let mut moments = List::new(alloc);
@@ -150,7 +155,8 @@ impl Blueprint<'_> {
     fn handed_source(&self, pipeline: &Pipeline, reading: TapReading) -> WordSource
         requires blueprint { IsBlueprint self.now }
         requires lane { HasHelper self.now reading.producer pipeline.now.number }
-        ensures { result ≡ Line ((lanes_of self.now.cells).of_helper pipeline.now.number reading.producer) reading.delay }
+        ensures { result ≡ Line ((lanes_of self.now.cells).of_helper
+            pipeline.now.number reading.producer) reading.delay }
     {
         WordSource::Line {
             lane: self.helper_lane(reading.producer as usize, pipeline.number),
@@ -172,8 +178,11 @@ impl Blueprint<'_> {
         requires spot { IsSpot self.now.array spot.now }
         requires site { IsSiteOf self.now.array spot.now site.now }
         requires pipeline { site.now.pipeline ≡ Some pipeline.now }
-        requires slot { IsSlotIn self.now.array spot.now.cell spot.now.node spot.now.piece.now.domain slot.now }
-        ensures { OnOk result (AddsPipelineMoment (seen self.now.array) (lanes_of self.now.cells) (spot_of spot.now) site.now.place.site pipeline.now (view site.now.place.tree) slot.now number moments.old moments.new) }
+        requires slot { IsSlotIn self.now.array
+            spot.now.cell spot.now.node spot.now.piece.now.domain slot.now }
+        ensures { OnOk result (AddsPipelineMoment (seen self.now.array)
+            (lanes_of self.now.cells) (spot_of spot.now) site.now.place.site pipeline.now
+            (view site.now.place.tree) slot.now number moments.old moments.new) }
     {
         let reading = self.array.handed(spot, site, pipeline, slot);
         let is_own = reading.is_some();
@@ -213,7 +222,9 @@ impl Blueprint<'_> {
         requires site { IsSiteOf self.now.array spot.now site.now }
         requires pipeline { site.now.pipeline ≡ Some pipeline.now }
         requires order { IsInOrder (count_in counter) spot.now.slots order.now }
-        ensures { IfOk result (ArePipelineMomentsTo (seen self.now.array) (count_in counter) (lanes_of self.now.cells) (spot_of spot.now) site.now.place.site pipeline.now (view site.now.place.tree) spot.now.slots order.now (length order.now)) }
+        ensures { IfOk result (ArePipelineMomentsTo (seen self.now.array) (count_in counter)
+            (lanes_of self.now.cells) (spot_of spot.now) site.now.place.site pipeline.now
+            (view site.now.place.tree) spot.now.slots order.now (length order.now)) }
     {
         let slots = spot.slots.as_slice();
         let mut moments = PipelineMoments {

@@ -61,7 +61,8 @@ fn entry_site(
     moments: &[Moment],
 ) -> Result<ProgramSite, Memory>
     requires { HasVariable (view_system flat.now) (view tree.now) }
-    ensures { IfOk result (λ site. (site ≡ site_by (inlet_by (view_system flat.now) (λ j. j) None (view tree.now)) site.width moments.now)
+    ensures { IfOk result (λ site. (site ≡ site_by
+        (inlet_by (view_system flat.now) (λ j. j) None (view tree.now)) site.width moments.now)
         × (site.width.bits ≡ read_width (view_system flat.now) own.bits None (view tree.now))) }
 {
     site(
@@ -81,7 +82,8 @@ fn entry_mode<'a>(
     found: &PipelineMoments,
 ) -> Result<Mode<'a>, Memory>
     requires { HasVariable (view_system flat.now) (view tree.now) }
-    ensures { IfOk result (λ mode. IsEntryMode (view_system flat.now) own.bits (view tree.now) found.now (mode_of mode)) }
+    ensures { IfOk result (λ mode.
+        IsEntryMode (view_system flat.now) own.bits (view tree.now) found.now (mode_of mode)) }
 {
     let entries = entry_site(alloc, flat, own, tree, found.entries.as_slice())?;
     pipeline_mode(alloc, found.entry_marks.as_slice(), tree, entries)
@@ -119,7 +121,8 @@ fn helper_modes<'a>(
     found: &PipelineMoments,
 ) -> Result<List<Mode<'a>>, Memory>
     requires { HasVariable (view_system flat.now) (view tree.now) }
-    ensures { IfOk result (λ modes. ArePipelineModes (view_system flat.now) own (view tree.now) found.now (map mode_of modes)) }
+    ensures { IfOk result (λ modes.
+        ArePipelineModes (view_system flat.now) own (view tree.now) found.now (map mode_of modes)) }
 {
     let entries = entry_mode(alloc, flat, own, tree, found)?;
     let others = own_mode(alloc, own, tree, found)?;
@@ -140,7 +143,8 @@ impl<'a> Blueprint<'a> {
         requires counter { IsCounted self.now.array counter }
         requires flat { flat.now ≡ self.now.array.timed.now.flat }
         requires helper { IsHelperOn self.now spot.now helper }
-        ensures { IfOk result (λ modes. AreHelperModes self.now counter spot.now helper (map mode_of modes)) }
+        ensures { IfOk result (λ modes.
+            AreHelperModes self.now counter spot.now helper (map mode_of modes)) }
     {
         let pieces = &self.cells.as_slice()[spot.cell].pieces;
         let place = &pieces.sites.as_slice()[helper.piece].as_slice()[helper.site];
@@ -167,7 +171,8 @@ impl<'a> Blueprint<'a> {
         requires flat { flat.now ≡ self.now.array.timed.now.flat }
         requires helper { HasPlan self.now cell helper }
         requires ranks { length (helpers_of self.now.array) < 18446744073709551615 }
-        ensures { IfOk result (λ lane. IsBuiltBy self.now counter cell (Some helper) (lane_of lane)) }
+        ensures { IfOk result (λ lane.
+            IsBuiltBy self.now counter cell (Some helper) (lane_of lane)) }
     {
         let plan = &self.cells.as_slice()[cell].pieces.spots.as_slice()[helper.piece];
         let spot = planned_spot(alloc, &self.array, plan)?;

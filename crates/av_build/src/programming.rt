@@ -168,7 +168,8 @@ impl<'a> Blueprint<'a> {
         requires flat { flat.now ≡ self.now.array.timed.now.flat }
         requires plan { IsPlanOn self.now plan.now.cell plan.now.helper }
         requires ranks { length (helpers_of self.now.array) < 18446744073709551615 }
-        ensures { IfOk result (λ lane. IsBuiltBy self.now counter plan.now.cell plan.now.helper (lane_of lane)) }
+        ensures { IfOk result (λ lane.
+            IsBuiltBy self.now counter plan.now.cell plan.now.helper (lane_of lane)) }
     {
         match plan.helper {
             Some(helper) => self.pipeline(alloc, flat, counter, plan.cell, helper),
@@ -229,7 +230,8 @@ fn from_blueprint<'a>(
     requires within { (f : Fault) → IsSpaceFault timed.now f → f ≡ fault.Memory }
     requires counter { IsCounted blueprint.now.array counter }
     requires ranks { length (helpers_of blueprint.now.array) < 18446744073709551615 }
-    ensures { IfOk result (λ program. IsProgrammed timed.now cells.now counter (program_of program)) }
+    ensures { IfOk result (λ program.
+        IsProgrammed timed.now cells.now counter (program_of program)) }
 {
     let flat = &timed.flat;
     let inputs = blueprint.port_widths(alloc, flat, cells.inputs.as_slice())?;
@@ -262,7 +264,8 @@ pub(crate) fn program<'a>(
     requires within { (f : Fault) → IsSpaceFault timed.now f → f ≡ fault.Memory }
     requires counter { IsCounter counter }
     requires apart { IsWithinCount timed.now cells.now counter }
-    ensures { IfOk result (λ program. IsProgrammed timed.now cells.now counter (program_of program)) }
+    ensures { IfOk result (λ program.
+        IsProgrammed timed.now cells.now counter (program_of program)) }
 {
     prove!(timed.helpers.len() <= 1 << 30);
     let array = Array::new(alloc, timed, cells)?;

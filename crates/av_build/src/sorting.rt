@@ -26,7 +26,8 @@ fn same_pieces(a: &[SpotPlan<'_>], b: &[SpotPlan<'_>]) -> bool
 // The number of the kind that the cell is of, where one of the first cells of kinds is of it.
 fn known(cells: &[CellPlan<'_>], firsts: &[usize], cell: &CellPlan<'_>) -> Option<usize>
     requires { All (λ first. first < length cells.now) firsts.now }
-    ensures { MatchOption result (HasNoKind cells.now firsts.now cell.now) (IsKind cells.now firsts.now cell.now) }
+    ensures { MatchOption result
+        (HasNoKind cells.now firsts.now cell.now) (IsKind cells.now firsts.now cell.now) }
 {
     for (kind, first) in firsts.iter().enumerate() {
         let other = &cells[*first];

@@ -75,7 +75,8 @@ pub(crate) fn marks(
     requires counter { IsCounter counter }
     requires order { (i k : ℕ) → slice_get order.now i ≡ Some k → k < length slots.now }
     requires points { All (λ t. IsPointOf set.now t.point) slots.now }
-    ensures { IfOk result (AreMarks (count_in counter) slots.now order.now (λ slot. IsTrue (has set.now slot.point)) (length order.now)) }
+    ensures { IfOk result (AreMarks (count_in counter) slots.now order.now
+        (λ slot. IsTrue (has set.now slot.point)) (length order.now)) }
 {
     let mut marks = List::new(alloc);
     for k in order {

@@ -40,7 +40,8 @@ fn domains(alloc: Global, pieces: &[Piece]) -> Result<List<Poly>, Memory>
 
 // The point with the name of the variable, where there is one at the place.
 fn name_place(alloc: Global, vars: &[Var], blame: Blame) -> Result<Option<(Name, Point)>, Memory>
-    ensures { IfOk result (λ outside. outside ≡ named (map signature (map view_variable vars.now)) (Some blame)) }
+    ensures { IfOk result (λ outside.
+        outside ≡ named (map signature (map view_variable vars.now)) (Some blame)) }
 {
     let place = blame.var as usize;
     if place >= vars.len() {
@@ -56,7 +57,8 @@ fn name_blame(
     vars: &[Var],
     blame: Option<Blame>,
 ) -> Result<Option<(Name, Point)>, Memory>
-    ensures { IfOk result (λ outside. outside ≡ named (map signature (map view_variable vars.now)) blame) }
+    ensures { IfOk result (λ outside.
+        outside ≡ named (map signature (map view_variable vars.now)) blame) }
 {
     match blame {
         None => Ok(None),
@@ -66,10 +68,13 @@ fn name_blame(
 
 // What is wrong with a variable at its least miscovered point.
 fn fault_at(alloc: Global, vars: &[Var], var: &Var, point: Point) -> Result<CheckFault, Memory>
-    requires stand { All (λ piece. IsReachableInside (map signature (map view_variable vars.now)) (view_piece piece) point) var.now.pieces }
+    requires stand { All (λ piece. IsReachableInside
+        (map signature (map view_variable vars.now)) (view_piece piece) point) var.now.pieces }
     requires small { AtMost 4095 point }
-    requires least { IsLeastMiscovered (map signature (map view_variable vars.now)) (view_variable var.now) point }
-    ensures { IfOk result (IsFaultOf (map signature (map view_variable vars.now)) (view_variable var.now)) }
+    requires least { IsLeastMiscovered
+        (map signature (map view_variable vars.now)) (view_variable var.now) point }
+    ensures { IfOk result
+        (IsFaultOf (map signature (map view_variable vars.now)) (view_variable var.now)) }
 {
     let variable = Name::new(alloc, var.name.as_str())?;
     match judge_pieces(alloc, vars, var.pieces.as_slice(), &point)? {
@@ -87,9 +92,12 @@ fn fault_at(alloc: Global, vars: &[Var], var: &Var, point: Point) -> Result<Chec
 
 // Tries the declared points of a variable, whose kept pieces are given.
 fn check_variable(alloc: Global, vars: &[Var], var: &Var, kept: &Var) -> Result<(), CheckFault>
-    requires { HasPremises (map signature (map view_variable vars.now)) (view_variable var.now) (view_variable kept.now) }
-    ensures fine { OnOk result (HasNoneMiscovered (map signature (map view_variable vars.now)) (view_variable var.now)) }
-    ensures wrong { IfErr result (IsFaultOf (map signature (map view_variable vars.now)) (view_variable var.now)) }
+    requires { HasPremises (map signature (map view_variable vars.now))
+        (view_variable var.now) (view_variable kept.now) }
+    ensures fine { OnOk result
+        (HasNoneMiscovered (map signature (map view_variable vars.now)) (view_variable var.now)) }
+    ensures wrong { IfErr result
+        (IsFaultOf (map signature (map view_variable vars.now)) (view_variable var.now)) }
 {
     if !var.kind.is_computed() {
         return Ok(());
@@ -103,9 +111,12 @@ fn check_variable(alloc: Global, vars: &[Var], var: &Var, kept: &Var) -> Result<
 
 // Tries each variable, whose kept pieces are given.
 fn check_variables(alloc: Global, vars: &[Var], kept: &[Var]) -> Result<(), CheckFault>
-    requires { HavePremises (map signature (map view_variable vars.now)) (map view_variable vars.now) (map view_variable kept.now) }
-    ensures fine { OnOk result (All (HasNoneMiscovered (map signature (map view_variable vars.now))) (map view_variable vars.now)) }
-    ensures wrong { IfErr result (λ f. (width : ℕ) → IsFault (record { width = width; variables = map view_variable vars.now }) f) }
+    requires { HavePremises (map signature (map view_variable vars.now))
+        (map view_variable vars.now) (map view_variable kept.now) }
+    ensures fine { OnOk result (All (HasNoneMiscovered (map signature (map view_variable vars.now)))
+        (map view_variable vars.now)) }
+    ensures wrong { IfErr result (λ f. (width : ℕ)
+        → IsFault (record { width = width; variables = map view_variable vars.now }) f) }
 {
     for k in 0..vars.len() {
         check_variable(alloc, vars, &vars[k], &kept[k])?;
@@ -125,7 +136,8 @@ pub fn check_normal(alloc: Global, flat: &Flat, normal: &Flat) -> Result<(), Che
 
     // Else the fault is that of the first variable with a miscovered point, at its least one.
     ensures fault { IfErr result (IsFault (view_system flat.now)) }
-    ensures refused { (f : FaultSeen) → IsFault (view_system flat.now) f → f ≢ fault.Memory → (result ≡ Err f) ⊎ (result ≡ Err fault.Memory) }
+    ensures refused { (f : FaultSeen) → IsFault (view_system flat.now) f
+        → f ≢ fault.Memory → (result ≡ Err f) ⊎ (result ≡ Err fault.Memory) }
 {
     check_variables(alloc, flat.vars.as_slice(), normal.vars.as_slice())
 }
@@ -139,7 +151,8 @@ pub fn check_normal(alloc: Global, flat: &Flat, normal: &Flat) -> Result<(), Che
 pub fn check(alloc: Global, flat: &Flat) -> Result<(), CheckFault>
     // The system has a normal form.
     requires well_formed { IsWellFormed (view_system flat.now) }
-    requires has_form { (f : Cause) → normalised.IsFault (view_system flat.now) f → f ≡ cause.Memory }
+    requires has_form { (f : Cause) → normalised.IsFault (view_system flat.now) f
+        → f ≡ cause.Memory }
 
     // It is passed exactly where it is proper, unless memory runs out.
     ensures proper { OnOk result (IsProper (view_system flat.now)) }
@@ -147,7 +160,8 @@ pub fn check(alloc: Global, flat: &Flat) -> Result<(), CheckFault>
 
     // Else the fault is that of the first variable with a miscovered point, at its least one.
     ensures fault { IfErr result (IsFault (view_system flat.now)) }
-    ensures refused { (f : FaultSeen) → IsFault (view_system flat.now) f → f ≢ fault.Memory → (result ≡ Err f) ⊎ (result ≡ Err fault.Memory) }
+    ensures refused { (f : FaultSeen) → IsFault (view_system flat.now) f
+        → f ≢ fault.Memory → (result ≡ Err f) ⊎ (result ≡ Err fault.Memory) }
 {
     match Normal.run(alloc, flat) {
         Ok(normal) => check_normal(alloc, flat, &normal),

@@ -18,7 +18,8 @@ use std::alloc::Global;
 
 // What a reference to a variable has that reads this point.
 fn judge_reference(vars: &[Var], var: u32, point: Point) -> Verdict
-    requires fits { dimension_of (slice_get (map signature (map view_variable vars.now)) var) ≡ Some (length point) }
+    requires fits { dimension_of (slice_get (map signature (map view_variable vars.now)) var)
+        ≡ Some (length point) }
     requires small { AtMost (2 ^ 25) point }
     ensures { IsReading (map signature (map view_variable vars.now)) var point result }
 {
@@ -38,9 +39,11 @@ fn judge(
     tree: &Tree,
     z: &Point,
 ) -> Result<Verdict, Memory>
-    requires stands { IsReachable (map signature (map view_variable vars.now)) under.now (view tree.now) z.now }
+    requires stands { IsReachable (map signature (map view_variable vars.now)) under.now
+        (view tree.now) z.now }
     requires small { AtMost 4095 z.now }
-    ensures { IfOk result (IsVerdict (map signature (map view_variable vars.now)) (view tree.now) (reach under.now z.now)) }
+    ensures { IfOk result (IsVerdict
+        (map signature (map view_variable vars.now)) (view tree.now) (reach under.now z.now)) }
 {
     match tree {
         Tree::Ref { var, map } => {
@@ -90,9 +93,11 @@ fn judge_all(
     trees: &[Tree],
     z: &Point,
 ) -> Result<Verdict, Memory>
-    requires stands { AreReachable (map signature (map view_variable vars.now)) under.now (trees_of (map view trees.now)) z.now }
+    requires stands { AreReachable (map signature (map view_variable vars.now)) under.now
+        (trees_of (map view trees.now)) z.now }
     requires small { AtMost 4095 z.now }
-    ensures { IfOk result (IsVerdictOfAll (map signature (map view_variable vars.now)) (trees_of (map view trees.now)) (reach under.now z.now)) }
+    ensures { IfOk result (IsVerdictOfAll (map signature (map view_variable vars.now))
+        (trees_of (map view trees.now)) (reach under.now z.now)) }
 {
     let mut verdict = Verdict::Missing(None);
     for tree in trees {
@@ -104,9 +109,11 @@ fn judge_all(
 
 // What a piece has, restricted to its domain.
 fn judge_piece(alloc: Global, vars: &[Var], piece: &Piece, z: &Point) -> Result<Verdict, Memory>
-    requires stands { IsReachableInside (map signature (map view_variable vars.now)) (view_piece piece.now) z.now }
+    requires stands { IsReachableInside
+        (map signature (map view_variable vars.now)) (view_piece piece.now) z.now }
     requires small { AtMost 4095 z.now }
-    ensures { IfOk result (IsVerdict (map signature (map view_variable vars.now)) (restriction piece.now.domain (view piece.now.tree)) z.now) }
+    ensures { IfOk result (IsVerdict (map signature (map view_variable vars.now))
+        (restriction piece.now.domain (view piece.now.tree)) z.now) }
 {
     if piece.domain.contains(z) {
         judge(alloc, vars, &[], &piece.tree, z)
@@ -122,9 +129,11 @@ pub(crate) fn judge_pieces(
     pieces: &[Piece],
     z: &Point,
 ) -> Result<Verdict, Memory>
-    requires stands { All (λ piece. IsReachableInside (map signature (map view_variable vars.now)) (view_piece piece) z.now) pieces.now }
+    requires stands { All (λ piece. IsReachableInside
+        (map signature (map view_variable vars.now)) (view_piece piece) z.now) pieces.now }
     requires small { AtMost 4095 z.now }
-    ensures { IfOk result (IsVerdictOfAll (map signature (map view_variable vars.now)) (trees_of (map (λ p. restriction p.domain p.tree) (map view_piece pieces.now))) z.now) }
+    ensures { IfOk result (IsVerdictOfAll (map signature (map view_variable vars.now))
+        (trees_of (map (λ p. restriction p.domain p.tree) (map view_piece pieces.now))) z.now) }
 {
     let mut verdict = Verdict::Missing(None);
     for piece in pieces {

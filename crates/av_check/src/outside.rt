@@ -27,7 +27,8 @@ fn append_parts(
     requires parts { All (IsInside dim extent.now) parts.now }
     requires to { All (IsInside dim extent.now) to.old }
     ensures inside { OnOk result (All (IsInside dim extent.now) to.new) }
-    ensures points { OnOk result ((z : Items ℤ) → IsInAny to.new z ↔ (IsInAny to.old z ⊎ IsInAny parts.now z)) }
+    ensures points { OnOk result ((z : Items ℤ)
+        → IsInAny to.new z ↔ (IsInAny to.old z ⊎ IsInAny parts.now z)) }
 {
     for part in parts {
         let part = normalised_copy(alloc, part)?;
@@ -52,7 +53,8 @@ fn left_outside(
     requires parts { All (IsInside dim extent.now) parts.now }
     requires set { IsOrdinary dim set.now }
     ensures inside { IfOk result (All (IsInside dim extent.now)) }
-    ensures points { IfOk result (λ left. (z : Items ℤ) → IsInAny left z ↔ (IsInAny parts.now z × (Has set.now z → ⊥))) }
+    ensures points { IfOk result (λ left. (z : Items ℤ)
+        → IsInAny left z ↔ (IsInAny parts.now z × (Has set.now z → ⊥))) }
 {
     let mut left = List::new(alloc);
     for part in parts {
@@ -75,7 +77,8 @@ fn left_of(
     requires inside { IsInside domain.now.dim extent.now domain.now }
     requires sets { All (IsOrdinary domain.now.dim) sets.now }
     ensures inside { IfOk result (All (IsInside domain.now.dim extent.now)) }
-    ensures points { IfOk result (λ left. (z : Items ℤ) → IsInAny left z ↔ (Has domain.now z × (coverage z sets.now ≡ 0))) }
+    ensures points { IfOk result (λ left. (z : Items ℤ)
+        → IsInAny left z ↔ (Has domain.now z × (coverage z sets.now ≡ 0))) }
 {
     let mut left = List::new(alloc);
     left.push(normalised_copy(alloc, domain)?)?;

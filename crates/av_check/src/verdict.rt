@@ -31,7 +31,8 @@ pub(crate) enum Verdict {
 
 /// What two parts have of which both are needed: what the first has where it has no word, else what the other has.
 pub(crate) fn both(first: Verdict, other: Verdict) -> Verdict
-    ensures { (m n : ℕ) (a b : Option Blamed) → IsOf m a first → IsOf n b other → IsOf (m * n) (where_none m a b) result }
+    ensures { (m n : ℕ) (a b : Option Blamed)
+        → IsOf m a first → IsOf n b other → IsOf (m * n) (where_none m a b) result }
 {
     match first {
         Verdict::Counted => other,
@@ -51,7 +52,8 @@ fn earlier(first: Option<Blame>, other: Option<Blame>) -> Option<Blame>
 
 /// What two branches have of which either will do.
 pub(crate) fn either(first: Verdict, other: Verdict) -> Verdict
-    ensures { (m n : ℕ) (a b : Option Blamed) → IsOf m a first → IsOf n b other → IsOf (m + n) (or_else a b) result }
+    ensures { (m n : ℕ) (a b : Option Blamed)
+        → IsOf m a first → IsOf n b other → IsOf (m + n) (or_else a b) result }
 {
     match first {
         Verdict::Counted => Verdict::Counted,

@@ -55,8 +55,10 @@ fn are_sizes(words: &[Name], from: usize) -> bool
 // The value of an option of this name at this place, and the place behind it.
 fn option_at<'a>(words: &'a [Name], at: usize, name: &[u8]) -> Option<(&'a [u8], usize)>
     requires { at < length words.now }
-    ensures found { IfSome result (λ x. (at < x.1) × (x.1 ≤ length words.now) × IsOption name.now (drop at words.now) x.0.now (drop x.1 words.now)) }
-    ensures none { IfNone result ((digits : List ℕ) (rest : List (List ℕ)) → IsOption name.now (drop at words.now) digits rest → ⊥) }
+    ensures found { IfSome result (λ x. (at < x.1) × (x.1 ≤ length words.now)
+        × IsOption name.now (drop at words.now) x.0.now (drop x.1 words.now)) }
+    ensures none { IfNone result ((digits : List ℕ) (rest : List (List ℕ))
+        → IsOption name.now (drop at words.now) digits rest → ⊥) }
 {
     let word = words[at].as_str().as_bytes();
     let tail = word.strip_prefix(name)?;
@@ -88,7 +90,8 @@ impl Options {
     // Reads the word at a place, and its value where it is an option: the options with it, and the place behind.
     fn read(self, words: &[Name], at: usize) -> Option<(Options, usize)>
         requires { at < length words.now }
-        ensures read { IfSome result (λ x. (at < x.1) × (x.1 ≤ length words.now) × ((p : Said) → Say (seen self) (drop at words.now) p ↔ Say (seen x.0) (drop x.1 words.now) p)) }
+        ensures read { IfSome result (λ x. (at < x.1) × (x.1 ≤ length words.now) × ((p : Said)
+            → Say (seen self) (drop at words.now) p ↔ Say (seen x.0) (drop x.1 words.now) p)) }
         ensures unread { IfNone result ((p : Said) → Say (seen self) (drop at words.now) p → ⊥) }
     {
         if let Some((digits, next)) = option_at(words, at, b"--width") {
@@ -103,9 +106,12 @@ impl Options {
     // Reads a size, or `--` and the sizes behind it.
     fn read_size(self, words: &[Name], at: usize) -> Option<(Options, usize)>
         requires at { at < length words.now }
-        requires no_width { (digits : List ℕ) (rest : List (List ℕ)) → IsOption (codes "--width") (drop at words.now) digits rest → ⊥ }
-        requires no_box { (digits : List ℕ) (rest : List (List ℕ)) → IsOption (codes "--box") (drop at words.now) digits rest → ⊥ }
-        ensures read { IfSome result (λ x. (at < x.1) × (x.1 ≤ length words.now) × ((p : Said) → Say (seen self) (drop at words.now) p ↔ Say (seen x.0) (drop x.1 words.now) p)) }
+        requires no_width { (digits : List ℕ) (rest : List (List ℕ))
+            → IsOption (codes "--width") (drop at words.now) digits rest → ⊥ }
+        requires no_box { (digits : List ℕ) (rest : List (List ℕ))
+            → IsOption (codes "--box") (drop at words.now) digits rest → ⊥ }
+        ensures read { IfSome result (λ x. (at < x.1) × (x.1 ≤ length words.now) × ((p : Said)
+            → Say (seen self) (drop at words.now) p ↔ Say (seen x.0) (drop x.1 words.now) p)) }
         ensures unread { IfNone result ((p : Said) → Say (seen self) (drop at words.now) p → ⊥) }
     {
         let word = words[at].as_str();
@@ -125,8 +131,10 @@ impl Options {
 
     // The options with a width, where none was given yet.
     fn with_width(self, digits: &[u8]) -> Option<Options>
-        ensures with { IfSome result (λ o. ((seen self).width ≡ None) × ((n : ℕ) × SpellsUpTo 64 digits.now n × (seen o ≡ having_width (seen self) n))) }
-        ensures none { IfNone result ((n : ℕ) → (seen self).width ≡ None → SpellsUpTo 64 digits.now n → ⊥) }
+        ensures with { IfSome result (λ o. ((seen self).width ≡ None)
+            × ((n : ℕ) × SpellsUpTo 64 digits.now n × (seen o ≡ having_width (seen self) n))) }
+        ensures none { IfNone result ((n : ℕ)
+            → (seen self).width ≡ None → SpellsUpTo 64 digits.now n → ⊥) }
     {
         if self.width.is_some() {
             return None;
@@ -141,8 +149,10 @@ impl Options {
 
     // The options with a size of the box, where none was given yet.
     fn with_box(self, digits: &[u8]) -> Option<Options>
-        ensures with { IfSome result (λ o. ((seen self).box ≡ None) × ((n : ℕ) × SpellsUpTo 4 digits.now n × (seen o ≡ having_box (seen self) n))) }
-        ensures none { IfNone result ((n : ℕ) → (seen self).box ≡ None → SpellsUpTo 4 digits.now n → ⊥) }
+        ensures with { IfSome result (λ o. ((seen self).box ≡ None)
+            × ((n : ℕ) × SpellsUpTo 4 digits.now n × (seen o ≡ having_box (seen self) n))) }
+        ensures none { IfNone result ((n : ℕ)
+            → (seen self).box ≡ None → SpellsUpTo 4 digits.now n → ⊥) }
     {
         if self.reach.is_some() {
             return None;
@@ -157,7 +167,8 @@ impl Options {
 
     /// The width of words that is given, or 32 bits.
     pub(crate) fn width_or_default(self) -> Option<Width>
-        ensures given { IfSome result (λ width. width.bits ≡ given_or default_width (seen self).width) }
+        ensures given { IfSome result (λ width.
+            width.bits ≡ given_or default_width (seen self).width) }
         ensures some { IfNone result ⊥ }
     {
         match self.width {

@@ -28,17 +28,25 @@ pub fn alphav<S: Source, K: Sink>(
     source: &mut S,
     sink: &mut K,
 ) -> Status
-    ensures words { result ≡ Status.Words → AddsWhole Status.Words words.now (S.left source.old) (S.left source.new) (K.state sink.old).held (K.state sink.new).held }
+    ensures words { result ≡ Status.Words → AddsWhole Status.Words words.now
+        (S.left source.old) (S.left source.new) (K.state sink.old).held (K.state sink.new).held }
     ensures untouched { (TakeInput words.now → ⊥) → source.new ≡ source.old }
-    ensures refused { result ≡ Status.Refused → AddsWhole Status.Refused words.now (S.left source.old) (S.left source.new) (K.state sink.old).held (K.state sink.new).held }
-    ensures done { result ≡ Status.Done → AddsWhole Status.Done words.now (S.left source.old) (S.left source.new) (K.state sink.old).held (K.state sink.new).held }
+    ensures refused { result ≡ Status.Refused → AddsWhole Status.Refused words.now
+        (S.left source.old) (S.left source.new) (K.state sink.old).held (K.state sink.new).held }
+    ensures done { result ≡ Status.Done → AddsWhole Status.Done words.now
+        (S.left source.old) (S.left source.new) (K.state sink.old).held (K.state sink.new).held }
 
-    ensures read_fault { result ≡ Status.ReadFault → HasRisen (S.faults source.old) (S.faults source.new) × ((K.state sink.new).held ≡ (K.state sink.old).held) }
-    ensures write_fault { result ≡ Status.WriteFault → HasRisen (K.state sink.old).faults (K.state sink.new).faults × AddsFront words.now (S.left source.old) (S.left source.new) (K.state sink.old).held (K.state sink.new).held }
+    ensures read_fault { result ≡ Status.ReadFault
+        → HasRisen (S.faults source.old) (S.faults source.new)
+        × ((K.state sink.new).held ≡ (K.state sink.old).held) }
+    ensures write_fault { result ≡ Status.WriteFault
+        → HasRisen (K.state sink.old).faults (K.state sink.new).faults × AddsFront words.now
+        (S.left source.old) (S.left source.new) (K.state sink.old).held (K.state sink.new).held }
     ensures memory { result ≡ Status.Memory → (K.state sink.new).held ≡ (K.state sink.old).held }
 
     // With no fault the words and the source's bytes fix the status, unless memory runs out.
-    ensures complete { (HasRisen (S.faults source.old) (S.faults source.new) → ⊥) → (HasRisen (K.state sink.old).faults (K.state sink.new).faults → ⊥)
+    ensures complete { (HasRisen (S.faults source.old) (S.faults source.new) → ⊥)
+        → (HasRisen (K.state sink.old).faults (K.state sink.new).faults → ⊥)
         → IsComplete words.now (S.left source.old) result }
 {
     let Some(command) = read_words(words) else {
@@ -65,7 +73,8 @@ fn answer<K: Sink>(
 ) -> Status
     requires read { Are command words.now }
     requires within { length bytes.now ≤ 1048576 }
-    ensures { IsAnswered (Refuses command words.now bytes.now) (Gives command words.now bytes.now) (K.state sink.old) (K.state sink.new) result }
+    ensures { IsAnswered (Refuses command words.now bytes.now)
+        (Gives command words.now bytes.now) (K.state sink.old) (K.state sink.new) result }
 {
     match command {
         Command::Check { width } => check(alloc, words, bytes, width, sink),

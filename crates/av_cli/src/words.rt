@@ -213,7 +213,8 @@ fn has_dashes(words: &[Name]) -> bool
 // The width of words that the options behind the first word give.
 fn read_width(words: &[Name]) -> Option<Width>
     requires { 0 < length words.now }
-    ensures read { IfSome result (λ width. (o : Said) × Say no_options (drop 1 words.now) o × (width.bits ≡ given_or default_width o.width)) }
+    ensures read { IfSome result (λ width. (o : Said)
+        × Say no_options (drop 1 words.now) o × (width.bits ≡ given_or default_width o.width)) }
     ensures unread { IfNone result ((o : Said) → Say no_options (drop 1 words.now) o → ⊥) }
 {
     read_options(words, 1)?.width_or_default()
@@ -222,7 +223,8 @@ fn read_width(words: &[Name]) -> Option<Width>
 // The width of words and the box that the options behind the first word give.
 fn read_width_and_reach(words: &[Name]) -> Option<(Width, Reach)>
     requires { 0 < length words.now }
-    ensures read { IfSome result (λ x. (o : Said) × Say no_options (drop 1 words.now) o × (x.0.bits ≡ given_or default_width o.width) × (x.1.size ≡ given_or default_box o.box)) }
+    ensures read { IfSome result (λ x. (o : Said) × Say no_options (drop 1 words.now) o
+        × (x.0.bits ≡ given_or default_width o.width) × (x.1.size ≡ given_or default_box o.box)) }
     ensures unread { IfNone result ((o : Said) → Say no_options (drop 1 words.now) o → ⊥) }
 {
     let options = read_options(words, 1)?;

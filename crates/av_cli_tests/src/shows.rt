@@ -111,7 +111,8 @@ fn are_apart(lines: &[Entry]) -> bool
 }
 
 fn is_apart(line: &Entry, later: &[Entry]) -> bool
-    ensures { IsTrue result → All (λ other. line.now.wire ≡ other.wire → line.now.cycle ≢ other.cycle) later.now }
+    ensures { IsTrue result
+        → All (λ other. line.now.wire ≡ other.wire → line.now.cycle ≢ other.cycle) later.now }
 {
     for other in later {
         if other.cycle == line.cycle && other.wire.as_str() == line.wire.as_str() {
@@ -143,7 +144,8 @@ fn has_word(ports: &[Port], line: &Entry, inputs: &Inputs) -> bool
 }
 
 fn fits_all(ports: &[Port], line: &Entry, word: Word) -> bool
-    ensures { IsTrue result → All (λ port. line.now.wire ≡ port.name → IsWord port.width.bits word.bits) ports.now }
+    ensures { IsTrue result
+        → All (λ port. line.now.wire ≡ port.name → IsWord port.width.bits word.bits) ports.now }
 {
     for port in ports {
         let own = Word::of(word.bits, port.width).bits;

@@ -117,7 +117,8 @@ impl<'a> Circuit<'a> {
     /// The place of what a drive drives.
     pub fn target(&self, drive: usize) -> usize
         requires { drive < length self.now.drives }
-        ensures { (d : _) → slice_get (all_names self.now) result ≡ Some (slice_index_or self.now.drives drive d).target }
+        ensures { (d : _) → slice_get (all_names self.now) result
+            ≡ Some (slice_index_or self.now.drives drive d).target }
     {
         self.merged.assignments[drive].target
     }
@@ -128,7 +129,8 @@ impl<'a> Circuit<'a> {
         requires fit { AllFit self.now words.old }
         requires zeros { AreZero self.now words.old }
         ensures settled { Settled self.now (named self.now words.new) }
-        ensures given { Agree (given_names self.now) (named self.now words.old) (named self.now words.new) }
+        ensures given { Agree (given_names self.now)
+            (named self.now words.old) (named self.now words.new) }
         ensures fit { AllFit self.now words.new }
     {
         for assignment in &self.computed {
@@ -143,13 +145,19 @@ impl<'a> Circuit<'a> {
         requires due { length due.old ≡ length self.now.steps }
         ensures stale { length stale.new ≡ length stale.old }
         ensures due { length due.new ≡ length due.old }
-        ensures drives { (name : Items ℕ) → slice_get (all_names self.now) place ≡ Some name → (k : ℕ) (d : _) → k < length self.now.drives → IsClear stale.new k
-            → IsClear stale.old k × EachOperand (IsOther name) (slice_index_or self.now.drives k d).operation }
-        ensures steps { (name : Items ℕ) → slice_get (all_names self.now) place ≡ Some name → (k : ℕ) (d : _) → k < length self.now.steps → IsClear due.new k
+        ensures drives { (name : Items ℕ)
+            → slice_get (all_names self.now) place ≡ Some name → (k : ℕ) (d : _)
+            → k < length self.now.drives → IsClear stale.new k → IsClear stale.old k
+            × EachOperand (IsOther name) (slice_index_or self.now.drives k d).operation }
+        ensures steps { (name : Items ℕ) → slice_get (all_names self.now) place ≡ Some name
+            → (k : ℕ) (d : _) → k < length self.now.steps → IsClear due.new k
             → IsClear due.old k × IsOther name (slice_index_or self.now.steps k d).next }
-        ensures ahead { (name : Items ℕ) → slice_get (all_names self.now) place ≡ Some name → AreAhead self.now name stale.old stale.new }
-        ensures others { (name : Items ℕ) → slice_get (all_names self.now) place ≡ Some name → (k : ℕ) (d : _) → k < length self.now.drives → IsClear stale.old k
-            → EachOperand (IsOther name) (slice_index_or self.now.drives k d).operation → IsClear stale.new k }
+        ensures ahead { (name : Items ℕ) → slice_get (all_names self.now) place ≡ Some name
+            → AreAhead self.now name stale.old stale.new }
+        ensures others { (name : Items ℕ) → slice_get (all_names self.now) place ≡ Some name
+            → (k : ℕ) (d : _) → k < length self.now.drives → IsClear stale.old k
+            → EachOperand (IsOther name) (slice_index_or self.now.drives k d).operation
+            → IsClear stale.new k }
     {
         set_all(self.drives_reading[place].as_slice(), stale);
         set_all(self.steps_reading[place].as_slice(), due);
@@ -167,10 +175,14 @@ impl<'a> Circuit<'a> {
         ensures due { length due.new ≡ length due.old }
         ensures fit { AllFit self.now words.new }
         ensures held { AreHeld self.now words.new stale.new due.new }
-        ensures given { Agree (given_names self.now) (named self.now words.old) (named self.now words.new) }
-        ensures clear { ((k : ℕ) → k < drive → IsClear stale.old k) → (k : ℕ) → k < drive + 1 → IsClear stale.new k }
+        ensures given { Agree (given_names self.now)
+            (named self.now words.old) (named self.now words.new) }
+        ensures clear { ((k : ℕ) → k < drive → IsClear stale.old k)
+            → (k : ℕ) → k < drive + 1 → IsClear stale.new k }
         ensures touched { AreTouched self.now words.old words.new stale.old stale.new }
-        ensures others { (d : _) (name : Items ℕ) → name ≢ (slice_index_or self.now.drives drive d).target → named self.now words.new name ≡ named self.now words.old name }
+        ensures others { (d : _) (name : Items ℕ)
+            → name ≢ (slice_index_or self.now.drives drive d).target
+            → named self.now words.new name ≡ named self.now words.old name }
     {
         let assignment = &self.merged.assignments[drive];
         let word = assignment.gate.word(words);
@@ -193,12 +205,15 @@ impl<'a> Circuit<'a> {
         ensures stale { length stale.new ≡ length stale.old }
         ensures due { length due.new ≡ length due.old }
         ensures settled { Settled self.now (named self.now words.new) }
-        ensures given { Agree (given_names self.now) (named self.now words.old) (named self.now words.new) }
+        ensures given { Agree (given_names self.now)
+            (named self.now words.old) (named self.now words.new) }
         ensures fit { AllFit self.now words.new }
         ensures held { AreHeld self.now words.new stale.new due.new }
         ensures most { result ≤ length self.now.drives }
-        ensures alone { (k : ℕ) → k ≤ length self.now.drives → ((j : ℕ) → j < k → IsClear stale.old j) → result + k ≤ length self.now.drives }
-        ensures touched { result ≤ touched (named self.now words.old) (named self.now words.new) self.now.drives stale.old }
+        ensures alone { (k : ℕ) → k ≤ length self.now.drives
+            → ((j : ℕ) → j < k → IsClear stale.old j) → result + k ≤ length self.now.drives }
+        ensures touched { result ≤ touched
+            (named self.now words.old) (named self.now words.new) self.now.drives stale.old }
     {
         let mut computed = 0;
         let mut drive = stale.next(0);
@@ -227,8 +242,10 @@ impl<'a> Circuit<'a> {
         ensures words { words.new ≡ slice_set words.old place word }
         ensures stale { length stale.new ≡ length stale.old }
         ensures due { length due.new ≡ length due.old }
-        ensures same { ReadTheSame self.now words.old words.new stale.old stale.new due.old due.new }
-        ensures ahead { (name : Items ℕ) → slice_get (all_names self.now) place ≡ Some name → AreAhead self.now name stale.old stale.new }
+        ensures same { ReadTheSame self.now
+            words.old words.new stale.old stale.new due.old due.new }
+        ensures ahead { (name : Items ℕ) → slice_get (all_names self.now) place ≡ Some name
+            → AreAhead self.now name stale.old stale.new }
         ensures touched { AreTouched self.now words.old words.new stale.old stale.new }
     {
         if words[place] != word {
@@ -255,7 +272,8 @@ impl<'a> Circuit<'a> {
         ensures words { words.new ≡ slice_set words.old place word }
         ensures stale { length stale.new ≡ length stale.old }
         ensures due { length due.new ≡ length due.old }
-        ensures same { dense ≡ false → ReadTheSame self.now words.old words.new stale.old stale.new due.old due.new }
+        ensures same { dense ≡ false
+            → ReadTheSame self.now words.old words.new stale.old stale.new due.old due.new }
     {
         if dense {
             words[place] = word;
@@ -277,11 +295,14 @@ impl<'a> Circuit<'a> {
         requires taken { length taken.old ≡ length self.now.steps }
         requires next { length next.old ≡ length self.now.steps }
         requires held { (k : ℕ) (d : _) → k < length self.now.steps → IsClear due.old k
-            → named self.now words.now (slice_index_or self.now.steps k d).register ≡ word_of (named self.now words.now) (slice_index_or self.now.steps k d).next }
+            → named self.now words.now (slice_index_or self.now.steps k d).register
+            ≡ word_of (named self.now words.now) (slice_index_or self.now.steps k d).next }
         ensures count { result ≤ length self.now.steps }
         ensures due { length due.new ≡ length due.old }
         ensures within { (j : ℕ) → j < result → slice_index taken.new j < length self.now.steps }
-        ensures taken { (d : _) → AreDue self.now (named self.now words.now) (λ i. word_of (named self.now words.now) (slice_index_or self.now.steps i d).next) taken.new next.new result }
+        ensures taken { (d : _)
+            → AreDue self.now (named self.now words.now) (λ i. word_of (named self.now words.now)
+            (slice_index_or self.now.steps i d).next) taken.new next.new result }
     {
         let mut count = 0;
         let mut step = due.next(0);
@@ -311,15 +332,20 @@ impl<'a> Circuit<'a> {
         requires taken { count ≤ length taken.now }
         requires next { count ≤ length next.now }
         requires within { (j : ℕ) → j < count → slice_index taken.now j < length self.now.steps }
-        requires fitting { (j : ℕ) (d : _) → j < count → IsWord (width_of self.now (slice_index_or self.now.steps (slice_index taken.now j) d).register) (slice_index next.now j) }
+        requires fitting { (j : ℕ) (d : _) → j < count → IsWord (width_of self.now (slice_index_or
+            self.now.steps (slice_index taken.now j) d).register) (slice_index next.now j) }
         requires fit { AllFit self.now words.old }
         ensures stale { length stale.new ≡ length stale.old }
         ensures due { length due.new ≡ length due.old }
         ensures fit { AllFit self.now words.new }
-        ensures same { ReadTheSame self.now words.old words.new stale.old stale.new due.old due.new }
-        ensures registers { (word : ℕ → ℕ) → AreDue self.now (named self.now words.old) word taken.now next.now count
-            → (i : ℕ) (d : _) → i < length self.now.steps → named self.now words.new (slice_index_or self.now.steps i d).register ≡ word i }
-        ensures others { (name : Items ℕ) → (Contains (registers_of self.now.steps) name → ⊥) → named self.now words.new name ≡ named self.now words.old name }
+        ensures same { ReadTheSame self.now
+            words.old words.new stale.old stale.new due.old due.new }
+        ensures registers { (word : ℕ → ℕ)
+            → AreDue self.now (named self.now words.old) word taken.now next.now count
+            → (i : ℕ) (d : _) → i < length self.now.steps
+            → named self.now words.new (slice_index_or self.now.steps i d).register ≡ word i }
+        ensures others { (name : Items ℕ) → (Contains (registers_of self.now.steps) name → ⊥)
+            → named self.now words.new name ≡ named self.now words.old name }
     {
         for i in 0..count {
             let register = self.merged.flip_flops[taken[i]].register;
@@ -348,9 +374,11 @@ impl<'a> Circuit<'a> {
         ensures due { length due.new ≡ length due.old }
         ensures fit { AllFit self.now words.new }
         ensures edge { Edge self.now false (named self.now words.old) (named self.now words.new) }
-        ensures ports { Agree (names_of self.now.inputs) (named self.now words.old) (named self.now words.new) }
+        ensures ports { Agree (names_of self.now.inputs)
+            (named self.now words.old) (named self.now words.new) }
         ensures held { AreHeld self.now words.new stale.new due.new }
-        ensures others { (name : Items ℕ) → (Contains (registers_of self.now.steps) name → ⊥) → named self.now words.new name ≡ named self.now words.old name }
+        ensures others { (name : Items ℕ) → (Contains (registers_of self.now.steps) name → ⊥)
+            → named self.now words.new name ≡ named self.now words.old name }
     {
         let count = self.take_due(words, due, taken, next);
         self.store_taken(taken, next, count, words, stale, due);
@@ -376,9 +404,12 @@ impl<'a> Circuit<'a> {
         ensures due { length due.new ≡ length due.old }
         ensures fit { AllFit self.now words.new }
         ensures edge { Edge self.now true (named self.now words.old) (named self.now words.new) }
-        ensures ports { Agree (names_of self.now.inputs) (named self.now words.old) (named self.now words.new) }
-        ensures held { AreHeld self.now words.old stale.old due.old → AreHeld self.now words.new stale.new due.new }
-        ensures others { (name : Items ℕ) → (Contains (registers_of self.now.steps) name → ⊥) → named self.now words.new name ≡ named self.now words.old name }
+        ensures ports { Agree (names_of self.now.inputs)
+            (named self.now words.old) (named self.now words.new) }
+        ensures held { AreHeld self.now words.old stale.old due.old
+            → AreHeld self.now words.new stale.new due.new }
+        ensures others { (name : Items ℕ) → (Contains (registers_of self.now.steps) name → ⊥)
+            → named self.now words.new name ≡ named self.now words.old name }
     {
         self.reset_words(taken, next);
         self.store_taken(taken, next, self.steps(), words, stale, due);
@@ -389,7 +420,8 @@ impl<'a> Circuit<'a> {
     pub(crate) fn next_words(&self, words: &[u64], next: &mut [u64])
         requires size { length words.now ≡ length (all_names self.now) }
         requires next { length next.old ≡ length self.now.steps }
-        ensures { AreTaken self.now false (named self.now words.now) (length self.now.steps) next.new }
+        ensures { AreTaken self.now false
+            (named self.now words.now) (length self.now.steps) next.new }
     {
         for (i, flip_flop) in self.merged.flip_flops.iter().enumerate() {
             next[i] = flip_flop.next.word(words);
@@ -415,7 +447,8 @@ impl<'a> Circuit<'a> {
         requires taken { length taken.old ≡ length self.now.steps }
         requires next { length next.old ≡ length self.now.steps }
         ensures steps { (j : ℕ) → j < length self.now.steps → slice_index taken.new j ≡ j }
-        ensures words { (old : Words) → AreTaken self.now true old (length self.now.steps) next.new }
+        ensures words { (old : Words)
+            → AreTaken self.now true old (length self.now.steps) next.new }
     {
         for (i, flip_flop) in self.merged.flip_flops.iter().enumerate() {
             next[i] = flip_flop.reset;
@@ -430,10 +463,13 @@ impl<'a> Circuit<'a> {
         requires next { length next.now ≡ length self.now.steps }
         requires fitting { FitRegisters self.now next.now }
         ensures registers { (k : ℕ) → k < length self.now.steps
-            → (d : _) → named self.now words.new (slice_index_or self.now.steps k d).register ≡ slice_index next.now k }
-        ensures ports { Agree (names_of self.now.inputs) (named self.now words.old) (named self.now words.new) }
+            → (d : _) → named self.now words.new (slice_index_or self.now.steps k d).register
+            ≡ slice_index next.now k }
+        ensures ports { Agree (names_of self.now.inputs)
+            (named self.now words.old) (named self.now words.new) }
         ensures fit { AllFit self.now words.new }
-        ensures others { (name : Items ℕ) → (Contains (registers_of self.now.steps) name → ⊥) → named self.now words.new name ≡ named self.now words.old name }
+        ensures others { (name : Items ℕ) → (Contains (registers_of self.now.steps) name → ⊥)
+            → named self.now words.new name ≡ named self.now words.old name }
     {
         for (i, flip_flop) in self.merged.flip_flops.iter().enumerate() {
             words[flip_flop.register] = next[i];

@@ -33,10 +33,12 @@ impl<'a> Clock<'a> {
     pub fn new(alloc: Global, of: &'a Module) -> Result<Clock<'a>, Memory>
         requires { IsSound of.now }
         ensures of { IfOk result (λ clock. clock.of ≡ of.now) }
-        ensures words { IfOk result (λ clock. clock.words ≡ replicate (length (all_names of.now)) 0) }
+        ensures words { IfOk result (λ clock.
+            clock.words ≡ replicate (length (all_names of.now)) 0) }
         ensures flag { IfOk result (λ clock. clock.settled ≡ false) }
         ensures work { IfOk result (λ clock. clock.work ≡ 0) }
-        ensures marked { IfOk result (λ clock. clock.marked ≡ replicate (length of.now.drives) true) }
+        ensures marked { IfOk result (λ clock.
+            clock.marked ≡ replicate (length of.now.drives) true) }
     {
         let sourced = SourcedClock::new(alloc, of)?;
         Ok(Clock { sourced })
@@ -52,17 +54,20 @@ impl<'a> Clock<'a> {
         ensures work { self.old.work ≤ self.new.work }
         ensures first { self.old.work ≡ 0 → self.new.work ≡ length self.new.of.drives }
         ensures most { self.new.work ≤ self.old.work + length self.new.of.drives }
-        ensures alone { (k : ℕ) → k ≤ length self.old.of.drives → ((j : ℕ) → j < k → IsClear self.old.marked j)
+        ensures alone { (k : ℕ) → k ≤ length self.old.of.drives
+            → ((j : ℕ) → j < k → IsClear self.old.marked j)
             → self.new.work + k ≤ self.old.work + length self.old.of.drives }
-        ensures touched { self.new.work ≤ self.old.work + touched (carried self.old) (carried self.new) self.old.of.drives self.old.marked }
+        ensures touched { self.new.work ≤ self.old.work
+            + touched (carried self.old) (carried self.new) self.old.of.drives self.old.marked }
     {
         self.sourced.settle();
     }
 
     /// A law on clocks: each drive that is not marked holds.
     pub fn unmarked_drives_hold(&self)
-        ensures { (k : ℕ) (d : _) → k < length self.now.of.drives → IsClear self.now.marked k
-            → Holds (width_of self.now.of) (carried self.now) (slice_index_or self.now.of.drives k d) }
+        ensures { (k : ℕ) (d : _)
+            → k < length self.now.of.drives → IsClear self.now.marked k → Holds
+            (width_of self.now.of) (carried self.now) (slice_index_or self.now.of.drives k d) }
     {
         self.sourced.unmarked_drives_hold();
     }
@@ -78,8 +83,10 @@ impl<'a> Clock<'a> {
     pub fn value(&self, wire: u32) -> u64
         requires place { wire < length self.now.of.drives }
         requires settled { IsTrue self.now.settled }
-        ensures word { (d : _) → result ≡ carried self.now (slice_index_or self.now.of.drives wire d).target }
-        ensures fits { (d : _) → IsWord (width_of self.now.of (slice_index_or self.now.of.drives wire d).target) result }
+        ensures word { (d : _)
+            → result ≡ carried self.now (slice_index_or self.now.of.drives wire d).target }
+        ensures fits { (d : _) → IsWord (width_of self.now.of
+            (slice_index_or self.now.of.drives wire d).target) result }
         ensures settled { Settled self.now.of (carried self.now) }
     {
         self.sourced.value(wire)
@@ -88,11 +95,17 @@ impl<'a> Clock<'a> {
     /// Presents a value at an input port, by its place in the module's `inputs`.
     pub fn set(&mut self, port: u32, value: u64)
         requires port { port < length self.old.of.inputs }
-        requires fits { ForSome (slice_get self.old.of.inputs port) (λ p. IsWord p.width.bits value) }
-        ensures words { self.new ≡ record self.old { words = slice_set self.old.words port value; settled = false; marked = self.new.marked } }
-        ensures port { IfSome (slice_get self.old.of.inputs port) (λ p. carried self.new p.name ≡ value) }
-        ensures others { IfSome (slice_get self.old.of.inputs port) (λ p. (name : Items ℕ) → name ≢ p.name
-            → carried self.new name ≡ carried self.old name) }
+        requires fits { ForSome (slice_get self.old.of.inputs port) (λ p.
+            IsWord p.width.bits value) }
+        ensures words { self.new ≡ record self.old {
+          words = slice_set self.old.words port value;
+          settled = false;
+          marked = self.new.marked;
+        } }
+        ensures port { IfSome (slice_get self.old.of.inputs port) (λ p.
+            carried self.new p.name ≡ value) }
+        ensures others { IfSome (slice_get self.old.of.inputs port) (λ p. (name : Items ℕ)
+            → name ≢ p.name → carried self.new name ≡ carried self.old name) }
     {
         self.sourced.set(port, value);
     }

@@ -32,9 +32,12 @@ struct Buffers {
 
 impl Buffers {
     fn new(alloc: Global, circuit: &Circuit<'_>) -> Result<Buffers, Memory>
-        ensures words { IfOk result (λ buffers. buffers.words.items ≡ replicate (length (all_names circuit.now)) 0) }
-        ensures next { IfOk result (λ buffers. length buffers.next.items ≡ length circuit.now.steps) }
-        ensures taken { IfOk result (λ buffers. length buffers.taken.items ≡ length circuit.now.steps) }
+        ensures words { IfOk result (λ buffers.
+            buffers.words.items ≡ replicate (length (all_names circuit.now)) 0) }
+        ensures next { IfOk result (λ buffers.
+            length buffers.next.items ≡ length circuit.now.steps) }
+        ensures taken { IfOk result (λ buffers.
+            length buffers.taken.items ≡ length circuit.now.steps) }
         ensures stale { IfOk result (λ buffers. length buffers.stale ≡ length circuit.now.drives) }
         ensures due { IfOk result (λ buffers. length buffers.due ≡ length circuit.now.steps) }
     {
@@ -93,10 +96,12 @@ impl<'a> Engine<'a> {
     pub(crate) fn new(alloc: Global, of: &'a Module, merged: Merged) -> Result<Engine<'a>, Memory>
         requires { IsMerging of.now merged }
         ensures of { IfOk result (λ engine. engine.of ≡ merged_module of.now merged.sources.items) }
-        ensures words { IfOk result (λ engine. engine.words ≡ replicate (length (all_names of.now)) 0) }
+        ensures words { IfOk result (λ engine.
+            engine.words ≡ replicate (length (all_names of.now)) 0) }
         ensures flag { IfOk result (λ engine. engine.settled ≡ false) }
         ensures work { IfOk result (λ engine. engine.work ≡ 0) }
-        ensures marked { IfOk result (λ engine. engine.marked ≡ replicate (length (merged_module of.now merged.sources.items).drives) true) }
+        ensures marked { IfOk result (λ engine. engine.marked
+            ≡ replicate (length (merged_module of.now merged.sources.items).drives) true) }
     {
         let circuit = Circuit::new(alloc, of, merged)?;
         let buffers = Buffers::new(alloc, &circuit)?;
@@ -125,9 +130,11 @@ impl<'a> Engine<'a> {
         ensures work { self.old.work ≤ self.new.work }
         ensures first { self.old.work ≡ 0 → self.new.work ≡ length self.new.of.drives }
         ensures most { self.new.work ≤ self.old.work + length self.new.of.drives }
-        ensures alone { (k : ℕ) → k ≤ length self.old.of.drives → ((j : ℕ) → j < k → IsClear self.old.marked j)
+        ensures alone { (k : ℕ) → k ≤ length self.old.of.drives
+            → ((j : ℕ) → j < k → IsClear self.old.marked j)
             → self.new.work + k ≤ self.old.work + length self.old.of.drives }
-        ensures touched { self.new.work ≤ self.old.work + touched (carried self.old) (carried self.new) self.old.of.drives self.old.marked }
+        ensures touched { self.new.work ≤ self.old.work
+            + touched (carried self.old) (carried self.new) self.old.of.drives self.old.marked }
     {
         if self.dense {
             self.settle_all();
@@ -151,9 +158,11 @@ impl<'a> Engine<'a> {
         ensures work { self.old.work ≤ self.new.work }
         ensures first { self.old.work ≡ 0 → self.new.work ≡ length self.new.of.drives }
         ensures most { self.new.work ≤ self.old.work + length self.new.of.drives }
-        ensures alone { (k : ℕ) → k ≤ length self.old.of.drives → ((j : ℕ) → j < k → IsClear self.old.marked j)
+        ensures alone { (k : ℕ) → k ≤ length self.old.of.drives
+            → ((j : ℕ) → j < k → IsClear self.old.marked j)
             → self.new.work + k ≤ self.old.work + length self.old.of.drives }
-        ensures touched { self.new.work ≤ self.old.work + touched (carried self.old) (carried self.new) self.old.of.drives self.old.marked }
+        ensures touched { self.new.work ≤ self.old.work
+            + touched (carried self.old) (carried self.new) self.old.of.drives self.old.marked }
     {
         self.circuit.settle(&mut self.words);
         self.dense = true;
@@ -163,8 +172,9 @@ impl<'a> Engine<'a> {
 
     /// A law on clocks: each drive that is not marked holds.
     pub(crate) fn unmarked_drives_hold(&self)
-        ensures { (k : ℕ) (d : _) → k < length self.now.of.drives → IsClear self.now.marked k
-            → Holds (width_of self.now.of) (carried self.now) (slice_index_or self.now.of.drives k d) }
+        ensures { (k : ℕ) (d : _)
+            → k < length self.now.of.drives → IsClear self.now.marked k → Holds
+            (width_of self.now.of) (carried self.now) (slice_index_or self.now.of.drives k d) }
     {
         let _dense = self.dense;
     }
@@ -186,7 +196,8 @@ impl<'a> Engine<'a> {
     /// The place of what a drive drives.
     pub(crate) fn target(&self, drive: usize) -> usize
         requires { drive < length self.now.of.drives }
-        ensures { (d : _) → slice_get (all_names self.now.of) result ≡ Some (slice_index_or self.now.of.drives drive d).target }
+        ensures { (d : _) → slice_get (all_names self.now.of) result
+            ≡ Some (slice_index_or self.now.of.drives drive d).target }
     {
         self.circuit.target(drive)
     }
@@ -195,7 +206,8 @@ impl<'a> Engine<'a> {
     pub(crate) fn word(&self, place: usize) -> u64
         requires { place < length (all_names self.now.of) }
         ensures word { result ≡ slice_index self.now.words place }
-        ensures fits { (name : Items ℕ) → slice_get (all_names self.now.of) place ≡ Some name → IsWord (width_of self.now.of name) result }
+        ensures fits { (name : Items ℕ) → slice_get (all_names self.now.of) place ≡ Some name
+            → IsWord (width_of self.now.of name) result }
         ensures settled { IsTrue self.now.settled → Settled self.now.of (carried self.now) }
     {
         self.words[place]
@@ -204,11 +216,17 @@ impl<'a> Engine<'a> {
     /// Presents a value at an input port, by its place in the module's `inputs`.
     pub(crate) fn set(&mut self, port: u32, value: u64)
         requires port { port < length self.old.of.inputs }
-        requires fits { ForSome (slice_get self.old.of.inputs port) (λ p. IsWord p.width.bits value) }
-        ensures words { self.new ≡ record self.old { words = slice_set self.old.words port value; settled = false; marked = self.new.marked } }
-        ensures port { IfSome (slice_get self.old.of.inputs port) (λ p. carried self.new p.name ≡ value) }
-        ensures others { IfSome (slice_get self.old.of.inputs port) (λ p. (name : Items ℕ) → name ≢ p.name
-            → carried self.new name ≡ carried self.old name) }
+        requires fits { ForSome (slice_get self.old.of.inputs port) (λ p.
+            IsWord p.width.bits value) }
+        ensures words { self.new ≡ record self.old {
+          words = slice_set self.old.words port value;
+          settled = false;
+          marked = self.new.marked;
+        } }
+        ensures port { IfSome (slice_get self.old.of.inputs port) (λ p.
+            carried self.new p.name ≡ value) }
+        ensures others { IfSome (slice_get self.old.of.inputs port) (λ p. (name : Items ℕ)
+            → name ≢ p.name → carried self.new name ≡ carried self.old name) }
     {
         self.circuit.present(
             self.dense,

@@ -88,7 +88,16 @@ fn gate_key(width: u32, gate: &Gate) -> Key
 
 // The key of a gate of this form that reads one word.
 fn read_one(form: u32, number: u32, bits: u32, width: u32, input: Reading) -> Key
-    ensures { result ≡ record { form = form; symbol = 0; number = number; bits = bits; width = width; first = input; second = Constant 0; third = Constant 0 } }
+    ensures { result ≡ record {
+      form = form;
+      symbol = 0;
+      number = number;
+      bits = bits;
+      width = width;
+      first = input;
+      second = Constant 0;
+      third = Constant 0;
+    } }
 {
     Key {
         form,
@@ -104,7 +113,16 @@ fn read_one(form: u32, number: u32, bits: u32, width: u32, input: Reading) -> Ke
 
 // The key of a gate of this form that reads two words under an operator.
 fn read_two(form: u32, symbol: Symbol, bits: u32, width: u32, left: Reading, right: Reading) -> Key
-    ensures { result ≡ record { form = form; symbol = symbol_number symbol; number = 0; bits = bits; width = width; first = left; second = right; third = Constant 0 } }
+    ensures { result ≡ record {
+      form = form;
+      symbol = symbol_number symbol;
+      number = 0;
+      bits = bits;
+      width = width;
+      first = left;
+      second = right;
+      third = Constant 0;
+    } }
 {
     Key {
         form,

@@ -97,7 +97,8 @@ impl Marks {
         requires place { index < length self.now }
         requires clear { IsClear self.now index }
         ensures some { 0 < result }
-        ensures clear { (k : ℕ) → index ≤ k → k < index + result → k < length self.now → IsClear self.now k }
+        ensures clear { (k : ℕ) → index ≤ k
+            → k < index + result → k < length self.now → IsClear self.now k }
     {
         next_bit(self.words[index / BITS], index % BITS) - index % BITS
     }
@@ -176,8 +177,10 @@ fn next_bit(word: u64, from: usize) -> usize
 pub(crate) fn set_all(list: &[usize], marks: &mut Marks)
     requires { All (λ k. k < length marks.old) list.now }
     ensures size { length marks.new ≡ length marks.old }
-    ensures marked { (k : ℕ) → IsClear marks.new k → IsClear marks.old k × (Contains list.now k → ⊥) }
-    ensures others { (k : ℕ) → IsClear marks.old k → (Contains list.now k → ⊥) → IsClear marks.new k }
+    ensures marked { (k : ℕ) → IsClear marks.new k
+        → IsClear marks.old k × (Contains list.now k → ⊥) }
+    ensures others { (k : ℕ) → IsClear marks.old k
+        → (Contains list.now k → ⊥) → IsClear marks.new k }
 {
     for index in list {
         marks.set(*index);
@@ -186,7 +189,8 @@ pub(crate) fn set_all(list: &[usize], marks: &mut Marks)
 
 /// In a dense clock marks say nothing, and where it has settled, all drives hold: their marks are cleared, and the steps are marked.
 pub fn mark_anew(dense: bool, stale: &mut Marks, due: &mut Marks)
-    ensures dense { IsTrue dense → (stale.new ≡ replicate (length stale.old) false) × (due.new ≡ replicate (length due.old) true) }
+    ensures dense { IsTrue dense → (stale.new ≡ replicate (length stale.old) false)
+        × (due.new ≡ replicate (length due.old) true) }
     ensures kept { dense ≡ false → (stale.new ≡ stale.old) × (due.new ≡ due.old) }
 {
     if dense {

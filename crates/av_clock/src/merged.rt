@@ -46,8 +46,10 @@ struct ResolvedModule {
 impl ResolvedModule {
     fn new(alloc: Global, of: &Module) -> Result<ResolvedModule, Memory>
         requires { IsSound of.now }
-        ensures assigned { IfOk result (λ resolved. AreAssigned of.now (length of.now.drives) resolved.assignments.items) }
-        ensures stepped { IfOk result (λ resolved. AreStepped of.now (length of.now.steps) resolved.flip_flops.items) }
+        ensures assigned { IfOk result (λ resolved.
+            AreAssigned of.now (length of.now.drives) resolved.assignments.items) }
+        ensures stepped { IfOk result (λ resolved.
+            AreStepped of.now (length of.now.steps) resolved.flip_flops.items) }
     {
         let resolver = Resolver::new(alloc, of)?;
         let assignments = resolver.assignments(alloc)?;
@@ -86,9 +88,11 @@ fn merge(
     requires sound { IsSound of.now }
     requires assigned { AreAssigned of.now (length of.now.drives) assignments.now }
     requires size { length sources.old ≡ length (all_names of.now) }
-    requires own { (place : ℕ) → place < length (all_names of.now) → slice_index sources.old place ≡ place }
+    requires own { (place : ℕ) → place < length (all_names of.now)
+        → slice_index sources.old place ≡ place }
     ensures merged { OnOk result (AreMerged of.now sources.new) }
-    ensures assigned { IfOk result (λ merged. AreAssigned (merged_module of.now sources.new) (length of.now.drives) merged.items) }
+    ensures assigned { IfOk result (λ merged.
+        AreAssigned (merged_module of.now sources.new) (length of.now.drives) merged.items) }
 {
     let inputs = inputs_of_module(of);
     let mut firsts = Firsts::new(alloc);
@@ -158,7 +162,8 @@ impl Firsts {
 // Each of so many places as its own source.
 fn own_sources(alloc: Global, count: usize) -> Result<Vec<usize>, Memory>
     ensures count { IfOk result (λ sources. length sources.items ≡ count) }
-    ensures own { IfOk result (λ sources. (place : ℕ) → place < count → slice_index sources.items place ≡ place) }
+    ensures own { IfOk result (λ sources. (place : ℕ)
+        → place < count → slice_index sources.items place ≡ place) }
 {
     let mut sources = Vec::new(alloc);
     for place in 0..count {
@@ -174,7 +179,8 @@ fn at_sources(
     flip_flops: &[FlipFlop],
 ) -> Result<Vec<FlipFlop>, Memory>
     requires { All (λ flip_flop. IsWithin (length sources.now) flip_flop.next) flip_flops.now }
-    ensures { IfOk result (λ merged. merged.items ≡ map (flip_flop_at_source sources.now) flip_flops.now) }
+    ensures { IfOk result (λ merged.
+        merged.items ≡ map (flip_flop_at_source sources.now) flip_flops.now) }
 {
     let mut merged = Vec::new(alloc);
     for flip_flop in flip_flops {

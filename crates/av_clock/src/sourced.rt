@@ -42,10 +42,12 @@ impl<'a> SourcedClock<'a> {
     pub(crate) fn new(alloc: Global, of: &'a Module) -> Result<SourcedClock<'a>, Memory>
         requires { IsSound of.now }
         ensures of { IfOk result (λ clock. clock.of ≡ of.now) }
-        ensures words { IfOk result (λ clock. clock.words ≡ replicate (length (all_names of.now)) 0) }
+        ensures words { IfOk result (λ clock.
+            clock.words ≡ replicate (length (all_names of.now)) 0) }
         ensures flag { IfOk result (λ clock. clock.settled ≡ false) }
         ensures work { IfOk result (λ clock. clock.work ≡ 0) }
-        ensures marked { IfOk result (λ clock. clock.marked ≡ replicate (length of.now.drives) true) }
+        ensures marked { IfOk result (λ clock.
+            clock.marked ≡ replicate (length of.now.drives) true) }
     {
         let merged = Merged::new(alloc, of)?;
         let sources = merged.sources.clone()?;
@@ -68,9 +70,11 @@ impl<'a> SourcedClock<'a> {
         ensures work { self.old.work ≤ self.new.work }
         ensures first { self.old.work ≡ 0 → self.new.work ≡ length self.new.of.drives }
         ensures most { self.new.work ≤ self.old.work + length self.new.of.drives }
-        ensures alone { (k : ℕ) → k ≤ length self.old.of.drives → ((j : ℕ) → j < k → IsClear self.old.marked j)
+        ensures alone { (k : ℕ) → k ≤ length self.old.of.drives
+            → ((j : ℕ) → j < k → IsClear self.old.marked j)
             → self.new.work + k ≤ self.old.work + length self.old.of.drives }
-        ensures touched { self.new.work ≤ self.old.work + touched (carried self.old) (carried self.new) self.old.of.drives self.old.marked }
+        ensures touched { self.new.work ≤ self.old.work
+            + touched (carried self.old) (carried self.new) self.old.of.drives self.old.marked }
     {
         self.engine.settle();
         self.engine.is_whole();
@@ -78,8 +82,9 @@ impl<'a> SourcedClock<'a> {
 
     /// A law on clocks: each drive that is not marked holds.
     pub(crate) fn unmarked_drives_hold(&self)
-        ensures { (k : ℕ) (d : _) → k < length self.now.of.drives → IsClear self.now.marked k
-            → Holds (width_of self.now.of) (carried self.now) (slice_index_or self.now.of.drives k d) }
+        ensures { (k : ℕ) (d : _)
+            → k < length self.now.of.drives → IsClear self.now.marked k → Holds
+            (width_of self.now.of) (carried self.now) (slice_index_or self.now.of.drives k d) }
     {
         self.engine.unmarked_drives_hold();
     }
@@ -95,8 +100,10 @@ impl<'a> SourcedClock<'a> {
     pub(crate) fn value(&self, wire: u32) -> u64
         requires place { wire < length self.now.of.drives }
         requires settled { IsTrue self.now.settled }
-        ensures word { (d : _) → result ≡ carried self.now (slice_index_or self.now.of.drives wire d).target }
-        ensures fits { (d : _) → IsWord (width_of self.now.of (slice_index_or self.now.of.drives wire d).target) result }
+        ensures word { (d : _)
+            → result ≡ carried self.now (slice_index_or self.now.of.drives wire d).target }
+        ensures fits { (d : _) → IsWord (width_of self.now.of
+            (slice_index_or self.now.of.drives wire d).target) result }
         ensures settled { Settled self.now.of (carried self.now) }
     {
         let place = self.engine.target(wire as usize);
@@ -106,11 +113,17 @@ impl<'a> SourcedClock<'a> {
     /// Presents a value at an input port, by its place in the module's `inputs`.
     pub(crate) fn set(&mut self, port: u32, value: u64)
         requires port { port < length self.old.of.inputs }
-        requires fits { ForSome (slice_get self.old.of.inputs port) (λ p. IsWord p.width.bits value) }
-        ensures words { self.new ≡ record self.old { words = slice_set self.old.words port value; settled = false; marked = self.new.marked } }
-        ensures port { IfSome (slice_get self.old.of.inputs port) (λ p. carried self.new p.name ≡ value) }
-        ensures others { IfSome (slice_get self.old.of.inputs port) (λ p. (name : Items ℕ) → name ≢ p.name
-            → carried self.new name ≡ carried self.old name) }
+        requires fits { ForSome (slice_get self.old.of.inputs port) (λ p.
+            IsWord p.width.bits value) }
+        ensures words { self.new ≡ record self.old {
+          words = slice_set self.old.words port value;
+          settled = false;
+          marked = self.new.marked;
+        } }
+        ensures port { IfSome (slice_get self.old.of.inputs port) (λ p.
+            carried self.new p.name ≡ value) }
+        ensures others { IfSome (slice_get self.old.of.inputs port) (λ p. (name : Items ℕ)
+            → name ≢ p.name → carried self.new name ≡ carried self.old name) }
     {
         self.engine.set(port, value);
         self.engine.is_whole();

@@ -22,14 +22,16 @@ fn put_name_and_place<K: Sink>(
     name: &Name,
     place: Place,
 )
-    ensures { Puts (K.state sink.old) (K.state sink.new) page.old page.new (words.now ++ name.now ++ codes " " ++ place_text place) }
+    ensures { Puts (K.state sink.old) (K.state sink.new) page.old page.new
+        (words.now ++ name.now ++ codes " " ++ place_text place) }
 {
     put_name(page, sink, words, name);
     put_place(page, sink, " ", place);
 }
 
 fn put_named_point<K: Sink>(page: &mut Page, sink: &mut K, words: &str, name: &Name, point: &Point)
-    ensures { Puts (K.state sink.old) (K.state sink.new) page.old page.new (words.now ++ named_point name.now point.now) }
+    ensures { Puts (K.state sink.old)
+        (K.state sink.new) page.old page.new (words.now ++ named_point name.now point.now) }
 {
     put_name(page, sink, words, name);
     page.put(sink, " ");
@@ -37,7 +39,8 @@ fn put_named_point<K: Sink>(page: &mut Page, sink: &mut K, words: &str, name: &N
 }
 
 fn put_blame<K: Sink>(page: &mut Page, sink: &mut K, outside: &Option<(Name, Point)>)
-    ensures { Puts (K.state sink.old) (K.state sink.new) page.old page.new (blame_text outside.now) }
+    ensures { Puts (K.state sink.old)
+        (K.state sink.new) page.old page.new (blame_text outside.now) }
 {
     match outside {
         Some((name, point)) => put_named_point(page, sink, " at ", name, point),
@@ -52,7 +55,8 @@ fn put_uncovered<K: Sink>(
     point: &Point,
     outside: &Option<(Name, Point)>,
 )
-    ensures { Puts (K.state sink.old) (K.state sink.new) page.old page.new (codes "uncovered " ++ named_point variable.now point.now ++ blame_text outside.now) }
+    ensures { Puts (K.state sink.old) (K.state sink.new) page.old page.new
+        (codes "uncovered " ++ named_point variable.now point.now ++ blame_text outside.now) }
 {
     put_named_point(page, sink, "uncovered ", variable, point);
     put_blame(page, sink, outside);
@@ -75,14 +79,16 @@ fn quantity_word(kind: Quantity) -> &'static str
 }
 
 fn put_amount<K: Sink>(page: &mut Page, sink: &mut K, words: &str, amount: u128)
-    ensures { Puts (K.state sink.old) (K.state sink.new) page.old page.new (words.now ++ decimal amount) }
+    ensures { Puts (K.state sink.old)
+        (K.state sink.new) page.old page.new (words.now ++ decimal amount) }
 {
     page.put(sink, words);
     page.put_number(sink, amount);
 }
 
 fn put_limit<K: Sink>(page: &mut Page, sink: &mut K, kind: Quantity, amount: u128)
-    ensures { Puts (K.state sink.old) (K.state sink.new) page.old page.new (codes "limit " ++ quantity_text kind ++ codes " " ++ decimal amount) }
+    ensures { Puts (K.state sink.old) (K.state sink.new) page.old page.new
+        (codes "limit " ++ quantity_text kind ++ codes " " ++ decimal amount) }
 {
     page.put(sink, "limit ");
     page.put(sink, quantity_word(kind));
@@ -90,7 +96,8 @@ fn put_limit<K: Sink>(page: &mut Page, sink: &mut K, kind: Quantity, amount: u12
 }
 
 fn put_alpha_reason<K: Sink>(page: &mut Page, sink: &mut K, refusal: &Refusal)
-    ensures { Puts (K.state sink.old) (K.state sink.new) page.old page.new (alpha_reason refusal.now) }
+    ensures { Puts (K.state sink.old)
+        (K.state sink.new) page.old page.new (alpha_reason refusal.now) }
 {
     match refusal {
         Refusal::BadByte(place) => put_place(page, sink, "bad byte ", *place),
@@ -145,9 +152,11 @@ pub(crate) fn write_alpha_refusal<K: Sink>(
     refusal: &Refusal,
     sink: &mut K,
 ) -> Result<(), WriteFault>
-    ensures added { OnOk result (Adds (K.state sink.old).held (K.state sink.new).held (refusal_line (alpha_reason refusal.now))) }
+    ensures added { OnOk result (Adds
+        (K.state sink.old).held (K.state sink.new).held (refusal_line (alpha_reason refusal.now))) }
     ensures fault { IsErr result → HasRisen (K.state sink.old).faults (K.state sink.new).faults }
-    ensures front { OnErr result (AddsPrefix (K.state sink.old).held (K.state sink.new).held (refusal_line (alpha_reason refusal.now))) }
+    ensures front { OnErr result (AddsPrefix
+        (K.state sink.old).held (K.state sink.new).held (refusal_line (alpha_reason refusal.now))) }
 {
     let mut page = Page::new();
     page.put(sink, "refused: ");
@@ -168,9 +177,11 @@ fn put_best_reason<K: Sink>(page: &mut Page, sink: &mut K, fault: &BestFault)
 
 /// Writes the line that says why there is no least schedule.
 pub(crate) fn write_best_refusal<K: Sink>(fault: &BestFault, sink: &mut K) -> Result<(), WriteFault>
-    ensures added { OnOk result (Adds (K.state sink.old).held (K.state sink.new).held (refusal_line (best_reason fault.now))) }
+    ensures added { OnOk result (Adds
+        (K.state sink.old).held (K.state sink.new).held (refusal_line (best_reason fault.now))) }
     ensures fault { IsErr result → HasRisen (K.state sink.old).faults (K.state sink.new).faults }
-    ensures front { OnErr result (AddsPrefix (K.state sink.old).held (K.state sink.new).held (refusal_line (best_reason fault.now))) }
+    ensures front { OnErr result (AddsPrefix
+        (K.state sink.old).held (K.state sink.new).held (refusal_line (best_reason fault.now))) }
 {
     let mut page = Page::new();
     page.put(sink, "refused: ");

@@ -37,7 +37,8 @@ fn chained(alloc: Global, bytes: &[u8], sizes: &[Size], width: Width) -> Result<
     requires short { length bytes.now < 4294967295 }
     requires small { AreSmall sizes.now }
     ensures found { IfOk result (λ to. Serialises bytes.now sizes.now width.bits (view_system to)) }
-    ensures refused { (f : Refused) → result ≡ Err f → f ≢ refusal.Memory → IsUnchained bytes.now sizes.now width.bits f }
+    ensures refused { (f : Refused) → result ≡ Err f
+        → f ≢ refusal.Memory → IsUnchained bytes.now sizes.now width.bits f }
 {
     let normal = checked(alloc, bytes, sizes, width)?;
     Ok(Serial.run(alloc, &normal)?)
@@ -70,7 +71,8 @@ pub fn best<K: Sink>(
     sink: &mut K,
 ) -> Status
     requires { length bytes.now ≤ 1048576 }
-    ensures { IsAnswered (RefusesBestWith words.now width.bits reach.size bytes.now) (GivesBestWith words.now width.bits reach.size bytes.now) (K.state sink.old) (K.state sink.new) result }
+    ensures { IsAnswered (RefusesBestWith words.now width.bits reach.size bytes.now) (GivesBestWith
+        words.now width.bits reach.size bytes.now) (K.state sink.old) (K.state sink.new) result }
 {
     let sizes = match sizes(alloc, words) {
         Err(Memory) => return Status::Memory,
@@ -87,9 +89,11 @@ pub fn best<K: Sink>(
 
 // Writes the line of the length.
 fn write_cycles<K: Sink>(cycles: u64, sink: &mut K) -> Result<(), WriteFault>
-    ensures added { OnOk result (Adds (K.state sink.old).held (K.state sink.new).held (cycles_line cycles)) }
+    ensures added { OnOk result
+        (Adds (K.state sink.old).held (K.state sink.new).held (cycles_line cycles)) }
     ensures fault { IsErr result → HasRisen (K.state sink.old).faults (K.state sink.new).faults }
-    ensures front { OnErr result (AddsPrefix (K.state sink.old).held (K.state sink.new).held (cycles_line cycles)) }
+    ensures front { OnErr result
+        (AddsPrefix (K.state sink.old).held (K.state sink.new).held (cycles_line cycles)) }
 {
     let mut page = Page::new();
     page.put(sink, "cycles ");
@@ -105,9 +109,11 @@ pub(crate) fn write_least_schedule<K: Sink>(
     sink: &mut K,
 ) -> Result<(), WriteFault>
     requires { IsLegal timed.now }
-    ensures added { OnOk result (Adds (K.state sink.old).held (K.state sink.new).held (schedule_text timed.now ++ cycles_line cycles)) }
+    ensures added { OnOk result (Adds (K.state sink.old).held
+        (K.state sink.new).held (schedule_text timed.now ++ cycles_line cycles)) }
     ensures fault { IsErr result → HasRisen (K.state sink.old).faults (K.state sink.new).faults }
-    ensures front { OnErr result (AddsPrefix (K.state sink.old).held (K.state sink.new).held (schedule_text timed.now ++ cycles_line cycles)) }
+    ensures front { OnErr result (AddsPrefix (K.state sink.old).held
+        (K.state sink.new).held (schedule_text timed.now ++ cycles_line cycles)) }
 {
     write_schedule(timed, sink)?;
     write_cycles(cycles, sink)

@@ -22,7 +22,8 @@ pub fn check<K: Sink>(
     sink: &mut K,
 ) -> Status
     requires { length bytes.now ≤ 1048576 }
-    ensures { IsAnswered (RefusesWith words.now width.bits bytes.now) (GivesWith words.now width.bits bytes.now) (K.state sink.old) (K.state sink.new) result }
+    ensures { IsAnswered (RefusesWith words.now width.bits bytes.now)
+        (GivesWith words.now width.bits bytes.now) (K.state sink.old) (K.state sink.new) result }
 {
     let sizes = match sizes(alloc, words) {
         Err(Memory) => return Status::Memory,

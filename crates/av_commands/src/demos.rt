@@ -75,7 +75,8 @@ fn product_sizes(alloc: Global, size: u32) -> Result<List<Size>, Memory>
 /// No size up to 16 meets a limit, so that only running out of memory keeps the text from being compiled.
 pub fn demo<K: Sink>(alloc: Global, size: u32, width: Width, reach: Reach, sink: &mut K) -> Status
     requires { size ≤ 16 }
-    ensures { PutsOneOf (GivesDemo size width.bits reach.size) (K.state sink.old) (K.state sink.new) result }
+    ensures { PutsOneOf (GivesDemo size width.bits reach.size)
+        (K.state sink.old) (K.state sink.new) result }
 {
     let Ok(sizes) = product_sizes(alloc, size) else {
         return Status::Memory;
@@ -89,7 +90,8 @@ pub fn demo<K: Sink>(alloc: Global, size: u32, width: Width, reach: Reach, sink:
 // Clocks the design on the entries, and adds the two lines.
 fn multiply<K: Sink>(alloc: Global, compiled: Compiled, width: Width, sink: &mut K) -> Status
     requires { IsEntered compiled.design width.bits }
-    ensures { PutsOneOf (IsSummed compiled.cells compiled.design width.bits) (K.state sink.old) (K.state sink.new) result }
+    ensures { PutsOneOf (IsSummed compiled.cells compiled.design width.bits)
+        (K.state sink.old) (K.state sink.new) result }
 {
     let status = put_product(alloc, &compiled, width, sink);
     let_go(compiled);
@@ -99,7 +101,8 @@ fn multiply<K: Sink>(alloc: Global, compiled: Compiled, width: Width, sink: &mut
 // The same, of a compiled text that stays.
 fn put_product<K: Sink>(alloc: Global, compiled: &Compiled, width: Width, sink: &mut K) -> Status
     requires { IsEntered compiled.now.design width.bits }
-    ensures { PutsOneOf (IsSummed compiled.now.cells compiled.now.design width.bits) (K.state sink.old) (K.state sink.new) result }
+    ensures { PutsOneOf (IsSummed compiled.now.cells compiled.now.design width.bits)
+        (K.state sink.old) (K.state sink.new) result }
 {
     match shown(alloc, &compiled.design, &MatrixEntries { width }) {
         Err(Memory) => Status::Memory,
@@ -126,9 +129,11 @@ fn total_of(words: &[Word], width: Width) -> Word
 
 // Writes the totals of the array, and the sum. It takes no memory.
 fn write_lines<K: Sink>(cells: &Cells, total: Word, sink: &mut K) -> Result<(), WriteFault>
-    ensures added { OnOk result (Adds (K.state sink.old).held (K.state sink.new).held (totals_line cells.now ++ (codes "sum " ++ decimal total.bits ++ codes "\n"))) }
+    ensures added { OnOk result (Adds (K.state sink.old).held (K.state sink.new).held
+        (totals_line cells.now ++ (codes "sum " ++ decimal total.bits ++ codes "\n"))) }
     ensures fault { IsErr result → HasRisen (K.state sink.old).faults (K.state sink.new).faults }
-    ensures front { OnErr result (AddsPrefix (K.state sink.old).held (K.state sink.new).held (totals_line cells.now ++ (codes "sum " ++ decimal total.bits ++ codes "\n"))) }
+    ensures front { OnErr result (AddsPrefix (K.state sink.old).held (K.state sink.new).held
+        (totals_line cells.now ++ (codes "sum " ++ decimal total.bits ++ codes "\n"))) }
 {
     let mut page = Page::new();
     write_totals(&mut page, sink, cells);

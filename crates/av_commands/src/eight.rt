@@ -43,7 +43,9 @@ pub fn run8<K: Sink>(
     sink: &mut K,
 ) -> Status
     requires { length bytes.now ≤ 1048576 }
-    ensures { IsAnswered (RefusesEightWith words.now width.bits reach.size bytes.now) (GivesEightWith words.now width.bits reach.size bytes.now) (K.state sink.old) (K.state sink.new) result }
+    ensures { IsAnswered (RefusesEightWith words.now width.bits reach.size bytes.now)
+        (GivesEightWith words.now width.bits reach.size bytes.now)
+        (K.state sink.old) (K.state sink.new) result }
 {
     let sizes = match sizes(alloc, words) {
         Err(Memory) => return Status::Memory,
@@ -67,9 +69,11 @@ pub fn run8<K: Sink>(
 
 // Writes the line of the refusal of too many sets.
 fn write_sets_refusal<K: Sink>(count: usize, sink: &mut K) -> Result<(), WriteFault>
-    ensures added { OnOk result (Adds (K.state sink.old).held (K.state sink.new).held (refusal_line (sets_reason count))) }
+    ensures added { OnOk result
+        (Adds (K.state sink.old).held (K.state sink.new).held (refusal_line (sets_reason count))) }
     ensures fault { IsErr result → HasRisen (K.state sink.old).faults (K.state sink.new).faults }
-    ensures front { OnErr result (AddsPrefix (K.state sink.old).held (K.state sink.new).held (refusal_line (sets_reason count))) }
+    ensures front { OnErr result (AddsPrefix
+        (K.state sink.old).held (K.state sink.new).held (refusal_line (sets_reason count))) }
 {
     let mut page = Page::new();
     page.put(sink, "refused: sets ");
@@ -80,7 +84,8 @@ fn write_sets_refusal<K: Sink>(count: usize, sink: &mut K) -> Result<(), WriteFa
 
 // Adds the line of the refusal of too many sets.
 fn put_sets_refusal<K: Sink>(sink: &mut K, count: usize) -> Status
-    ensures { IsPut (K.state sink.old) (K.state sink.new) (refusal_line (sets_reason count)) Status.Refused result }
+    ensures { IsPut (K.state sink.old)
+        (K.state sink.new) (refusal_line (sets_reason count)) Status.Refused result }
 {
     match write_sets_refusal(count, sink) {
         Ok(()) => Status::Refused,
@@ -98,7 +103,8 @@ fn answer_sets<K: Sink>(
     requires clockable { IsClockable compiled.timed compiled.design }
     requires few { length sets.now ≤ 8 }
     requires lines { All (λ set. set.first_line + length set.bytes.now < 4294967295) sets.now }
-    ensures { IsAnswered (RefusesBadSet compiled.timed sets.now) (GivesEightOf compiled.timed compiled.design sets.now) (K.state sink.old) (K.state sink.new) result }
+    ensures { IsAnswered (RefusesBadSet compiled.timed sets.now) (GivesEightOf
+        compiled.timed compiled.design sets.now) (K.state sink.old) (K.state sink.new) result }
 {
     let status = answer_each_set(alloc, &compiled, sets, sink);
     let_go(compiled);
@@ -115,7 +121,9 @@ fn answer_each_set<K: Sink>(
     requires clockable { IsClockable compiled.now.timed compiled.now.design }
     requires few { length sets.now ≤ 8 }
     requires lines { All (λ set. set.first_line + length set.bytes.now < 4294967295) sets.now }
-    ensures { IsAnswered (RefusesBadSet compiled.now.timed sets.now) (GivesEightOf compiled.now.timed compiled.now.design sets.now) (K.state sink.old) (K.state sink.new) result }
+    ensures { IsAnswered (RefusesBadSet compiled.now.timed sets.now)
+        (GivesEightOf compiled.now.timed compiled.now.design sets.now)
+        (K.state sink.old) (K.state sink.new) result }
 {
     match read_sets(alloc, &compiled.timed.flat, sets) {
         Err(fault) => put_data_refusal(sink, &fault),
@@ -127,8 +135,10 @@ fn answer_each_set<K: Sink>(
 fn put_sets<K: Sink>(alloc: Global, compiled: &Compiled, inputs: &[Inputs], sink: &mut K) -> Status
     requires clockable { IsClockable compiled.now.timed compiled.now.design }
     requires few { length inputs.now ≤ 8 }
-    requires inputs { All (λ x. AreInputs (view_system compiled.now.timed.flat) (words_of x)) inputs.now }
-    ensures { PutsOneOf (AreResultsOfSets compiled.now.timed compiled.now.design (map words_of inputs.now)) (K.state sink.old) (K.state sink.new) result }
+    requires inputs { All (λ x. AreInputs (view_system compiled.now.timed.flat) (words_of x))
+        inputs.now }
+    ensures { PutsOneOf (AreResultsOfSets compiled.now.timed compiled.now.design
+        (map words_of inputs.now)) (K.state sink.old) (K.state sink.new) result }
 {
     match shown_in_lanes(alloc, &compiled.design, inputs) {
         Err(Memory) => Status::Memory,
@@ -150,9 +160,11 @@ fn write_sets<K: Sink>(
     sink: &mut K,
 ) -> Result<(), WriteFault>
     requires { All (λ words. length words ≡ length lines.now) columns.now }
-    ensures added { OnOk result (Adds (K.state sink.old).held (K.state sink.new).held (set_lines 1 (result_texts (view_system flat.now) lines.now columns.now))) }
+    ensures added { OnOk result (Adds (K.state sink.old).held (K.state sink.new).held
+        (set_lines 1 (result_texts (view_system flat.now) lines.now columns.now))) }
     ensures fault { IsErr result → HasRisen (K.state sink.old).faults (K.state sink.new).faults }
-    ensures front { OnErr result (AddsPrefix (K.state sink.old).held (K.state sink.new).held (set_lines 1 (result_texts (view_system flat.now) lines.now columns.now))) }
+    ensures front { OnErr result (AddsPrefix (K.state sink.old).held (K.state sink.new).held
+        (set_lines 1 (result_texts (view_system flat.now) lines.now columns.now))) }
 {
     for (k, words) in columns.iter().enumerate() {
         write_set_line(k as u128 + 1, sink)?;
@@ -163,9 +175,11 @@ fn write_sets<K: Sink>(
 
 // Writes the line of a set.
 fn write_set_line<K: Sink>(number: u128, sink: &mut K) -> Result<(), WriteFault>
-    ensures added { OnOk result (Adds (K.state sink.old).held (K.state sink.new).held (set_line number)) }
+    ensures added { OnOk result
+        (Adds (K.state sink.old).held (K.state sink.new).held (set_line number)) }
     ensures fault { IsErr result → HasRisen (K.state sink.old).faults (K.state sink.new).faults }
-    ensures front { OnErr result (AddsPrefix (K.state sink.old).held (K.state sink.new).held (set_line number)) }
+    ensures front { OnErr result
+        (AddsPrefix (K.state sink.old).held (K.state sink.new).held (set_line number)) }
     ensures later { (K.state sink.old).faults ≤ (K.state sink.new).faults }
 {
     let mut page = Page::new();

@@ -22,7 +22,8 @@ pub fn emit<K: Sink>(
     sink: &mut K,
 ) -> Status
     requires { length bytes.now ≤ 1048576 }
-    ensures { IsAnswered (RefusesEmitWith words.now width.bits reach.size bytes.now) (GivesEmitWith words.now width.bits reach.size bytes.now) (K.state sink.old) (K.state sink.new) result }
+    ensures { IsAnswered (RefusesEmitWith words.now width.bits reach.size bytes.now) (GivesEmitWith
+        words.now width.bits reach.size bytes.now) (K.state sink.old) (K.state sink.new) result }
 {
     let sizes = match sizes(alloc, words) {
         Err(Memory) => return Status::Memory,

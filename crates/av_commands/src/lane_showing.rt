@@ -33,8 +33,9 @@ pub(crate) fn shown_in_lanes<D: Data>(
     requires words { All (λ x. HaveFittingWords design.now (D.words x)) sets.now }
     requires few { length sets.now ≤ 8 }
     ensures count { IfOk result (λ columns. length columns ≡ length sets.now) }
-    ensures shown { IfOk result (λ columns. (k : ℕ) (x : _) (words : _) → slice_get sets.now k ≡ Some x → slice_get columns k ≡ Some words
-        → AreShown design.now (D.words x) (bits_of words)) }
+    ensures shown { IfOk result (λ columns. (k : ℕ) (x : _) (words : _)
+        → slice_get sets.now k ≡ Some x
+        → slice_get columns k ≡ Some words → AreShown design.now (D.words x) (bits_of words)) }
 {
     let lines = design.listing.ats.as_slice();
     let cycles = cycles_of(lines);
@@ -55,7 +56,8 @@ fn feed_sets<D: Data>(
     requires words { All (λ x. HaveFittingWords design.now (D.words x)) sets.now }
     ensures count { IfOk result (λ stimuli. length stimuli ≡ length sets.now) }
     ensures cycles { IfOk result (All (λ s. s.cycles ≡ cycles)) }
-    ensures values { IfOk result (λ stimuli. (k : ℕ) (x : _) (s : _) → slice_get sets.now k ≡ Some x → slice_get stimuli k ≡ Some s
+    ensures values { IfOk result (λ stimuli. (k : ℕ) (x : _) (s : _)
+        → slice_get sets.now k ≡ Some x → slice_get stimuli k ≡ Some s
         → AreOfLines design.now (D.words x) (length design.now.listing.ins) s.values) }
 {
     let mut stimuli = List::new(alloc);
@@ -139,10 +141,15 @@ fn clock_lanes_and_note(
 // stimulus takes 0.
 fn words_next(stimuli: &[Stimulus], next: &mut [usize; 8], cycle: u32, port: u32) -> [u64; 8]
     requires few { length stimuli.now ≤ 8 }
-    requires within { (k : ℕ) (s : _) → slice_get stimuli.now k ≡ Some s → slice_index next.old k ≤ length s.values }
-    ensures words { (k : ℕ) (s : _) → slice_get stimuli.now k ≡ Some s → slice_index result k ≡ word_next (drop (slice_index next.old k) s.values) cycle port }
-    ensures rest { (k : ℕ) (s : _) → slice_get stimuli.now k ≡ Some s → drop (slice_index next.new k) s.values ≡ rest_next (drop (slice_index next.old k) s.values) cycle port }
-    ensures within { (k : ℕ) (s : _) → slice_get stimuli.now k ≡ Some s → slice_index next.new k ≤ length s.values }
+    requires within { (k : ℕ) (s : _)
+        → slice_get stimuli.now k ≡ Some s → slice_index next.old k ≤ length s.values }
+    ensures words { (k : ℕ) (s : _) → slice_get stimuli.now k ≡ Some s
+        → slice_index result k ≡ word_next (drop (slice_index next.old k) s.values) cycle port }
+    ensures rest { (k : ℕ) (s : _)
+        → slice_get stimuli.now k ≡ Some s → drop (slice_index next.new k) s.values
+        ≡ rest_next (drop (slice_index next.old k) s.values) cycle port }
+    ensures within { (k : ℕ) (s : _)
+        → slice_get stimuli.now k ≡ Some s → slice_index next.new k ≤ length s.values }
     ensures others { (k : ℕ) → length stimuli.now ≤ k → slice_index result k ≡ 0 }
 {
     let mut words = [0; 8];
@@ -169,7 +176,8 @@ fn present_in_lanes(
     requires left { AreLeftInLanes lanes.old.of.inputs stimuli.now cycle 0 next.old }
     ensures of { lanes.new.of ≡ lanes.old.of }
     ensures ports { ArePresentedInLanes lanes.new.of stimuli.now cycle inputs lanes.new }
-    ensures registers { (k : ℕ) → k < 8 → Agree (names_of lanes.new.of.registers) (carried k lanes.old) (carried k lanes.new) }
+    ensures registers { (k : ℕ) → k < 8
+        → Agree (names_of lanes.new.of.registers) (carried k lanes.old) (carried k lanes.new) }
     ensures left { AreLeftInLanes lanes.new.of.inputs stimuli.now (cycle + 1) 0 next.new }
 {
     for port in 0..inputs {
@@ -189,7 +197,8 @@ fn note_lanes(
     requires settled { IsTrue lanes.now.settled }
     requires taps { AreTaps lanes.now.of lines.now (length lines.now) taps.now }
     requires room { length rows.old ≡ length lines.now }
-    ensures { (k : ℕ) → k < 8 → lane k rows.new ≡ noted (carried k lanes.now) cycle lines.now (lane k rows.old) }
+    ensures { (k : ℕ) → k < 8
+        → lane k rows.new ≡ noted (carried k lanes.now) cycle lines.now (lane k rows.old) }
 {
     for (i, line) in lines.iter().enumerate() {
         if line.cycle == cycle {
@@ -202,7 +211,8 @@ fn note_lanes(
 fn columns(alloc: Global, rows: &[[u64; 8]], count: usize) -> Result<List<List<Word>>, Memory>
     requires { count ≤ 8 }
     ensures count { IfOk result (λ columns. length columns ≡ count) }
-    ensures words { IfOk result (λ columns. (k : ℕ) (words : _) → slice_get columns k ≡ Some words → bits_of words ≡ lane k rows.now) }
+    ensures words { IfOk result (λ columns. (k : ℕ) (words : _)
+        → slice_get columns k ≡ Some words → bits_of words ≡ lane k rows.now) }
 {
     let mut columns = List::new(alloc);
     for k in 0..count {

@@ -9,8 +9,10 @@ use av_base::decimal_value;
 
 /// The number that the digits spell, where it is not above the greatest.
 pub(crate) fn number_at_most(greatest: u32, digits: &[u8]) -> Option<u32>
-    ensures spelled { IfSome result (λ n. IsDigits digits.now × (n ≡ number_of digits.now) × (n ≤ greatest)) }
-    ensures not_spelled { IfNone result (IsDigits digits.now → number_of digits.now ≤ greatest → ⊥) }
+    ensures spelled { IfSome result (λ n. IsDigits digits.now
+        × (n ≡ number_of digits.now) × (n ≤ greatest)) }
+    ensures not_spelled { IfNone result (IsDigits digits.now
+        → number_of digits.now ≤ greatest → ⊥) }
 {
     if !are_digits(digits) {
         return None;

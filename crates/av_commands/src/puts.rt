@@ -67,7 +67,8 @@ pub(crate) fn put_schedule<K: Sink>(sink: &mut K, timed: Timed) -> Status
 /// Adds the lines of the array.
 pub(crate) fn put_table<K: Sink>(sink: &mut K, array: MappedSystem) -> Status
     requires { IsArrayOf array.timed array.cells }
-    ensures { IsPut (K.state sink.old) (K.state sink.new) (table_text array.timed array.cells) Status.Done result }
+    ensures { IsPut (K.state sink.old)
+        (K.state sink.new) (table_text array.timed array.cells) Status.Done result }
 {
     match write_table(&array.timed, &array.cells, sink) {
         Ok(()) => Status::Done,
@@ -77,8 +78,10 @@ pub(crate) fn put_table<K: Sink>(sink: &mut K, array: MappedSystem) -> Status
 
 /// Adds the line of the refusal of a design text. Out of memory has no line: the status tells it.
 pub(crate) fn put_verilog_refusal<K: Sink>(sink: &mut K, fault: &VFault) -> Status
-    ensures memory { fault.now ≡ verilog_fault.Memory → (result ≡ Status.Memory) × ((K.state sink.new).held ≡ (K.state sink.old).held) }
-    ensures refused { (fault.now ≡ verilog_fault.Memory → ⊥) → IsPut (K.state sink.old) (K.state sink.new) (refusal_line (verilog_reason fault.now)) Status.Refused result }
+    ensures memory { fault.now ≡ verilog_fault.Memory
+        → (result ≡ Status.Memory) × ((K.state sink.new).held ≡ (K.state sink.old).held) }
+    ensures refused { (fault.now ≡ verilog_fault.Memory → ⊥) → IsPut (K.state sink.old)
+        (K.state sink.new) (refusal_line (verilog_reason fault.now)) Status.Refused result }
 {
     match fault {
         VFault::Memory => Status::Memory,
@@ -91,8 +94,10 @@ pub(crate) fn put_verilog_refusal<K: Sink>(sink: &mut K, fault: &VFault) -> Stat
 
 /// Adds the line of the refusal of a stimulus or of data. Out of memory has no line: the status tells it.
 pub(crate) fn put_data_refusal<K: Sink>(sink: &mut K, fault: &DataFault) -> Status
-    ensures memory { fault.now ≡ data_fault.Memory → (result ≡ Status.Memory) × ((K.state sink.new).held ≡ (K.state sink.old).held) }
-    ensures refused { (fault.now ≡ data_fault.Memory → ⊥) → IsPut (K.state sink.old) (K.state sink.new) (refusal_line (data_reason fault.now)) Status.Refused result }
+    ensures memory { fault.now ≡ data_fault.Memory
+        → (result ≡ Status.Memory) × ((K.state sink.new).held ≡ (K.state sink.old).held) }
+    ensures refused { (fault.now ≡ data_fault.Memory → ⊥) → IsPut (K.state sink.old)
+        (K.state sink.new) (refusal_line (data_reason fault.now)) Status.Refused result }
 {
     match fault {
         DataFault::Memory => Status::Memory,
@@ -105,8 +110,10 @@ pub(crate) fn put_data_refusal<K: Sink>(sink: &mut K, fault: &DataFault) -> Stat
 
 /// Adds the line of the refusal of an Alpha text. Out of memory has no line: the status tells it.
 pub(crate) fn put_alpha_refusal<K: Sink>(sink: &mut K, refusal: Refusal) -> Status
-    ensures memory { refusal ≡ alpha_refusal.Memory → (result ≡ Status.Memory) × ((K.state sink.new).held ≡ (K.state sink.old).held) }
-    ensures refused { (refusal ≡ alpha_refusal.Memory → ⊥) → IsPut (K.state sink.old) (K.state sink.new) (refusal_line (alpha_reason refusal)) Status.Refused result }
+    ensures memory { refusal ≡ alpha_refusal.Memory
+        → (result ≡ Status.Memory) × ((K.state sink.new).held ≡ (K.state sink.old).held) }
+    ensures refused { (refusal ≡ alpha_refusal.Memory → ⊥) → IsPut (K.state sink.old)
+        (K.state sink.new) (refusal_line (alpha_reason refusal)) Status.Refused result }
 {
     match &refusal {
         Refusal::Memory => Status::Memory,
@@ -120,7 +127,8 @@ pub(crate) fn put_alpha_refusal<K: Sink>(sink: &mut K, refusal: Refusal) -> Stat
 /// Adds the lines of the schedule, and its length.
 pub(crate) fn put_least_schedule<K: Sink>(sink: &mut K, timed: &Timed, cycles: u64) -> Status
     requires { IsLegal timed.now }
-    ensures { IsPut (K.state sink.old) (K.state sink.new) (schedule_text timed.now ++ cycles_line cycles) Status.Done result }
+    ensures { IsPut (K.state sink.old)
+        (K.state sink.new) (schedule_text timed.now ++ cycles_line cycles) Status.Done result }
 {
     match write_least_schedule(timed, cycles, sink) {
         Ok(()) => Status::Done,
@@ -130,8 +138,10 @@ pub(crate) fn put_least_schedule<K: Sink>(sink: &mut K, timed: &Timed, cycles: u
 
 /// Adds the line that says why there is no least schedule. Out of memory has no line: the status tells it.
 pub(crate) fn put_best_refusal<K: Sink>(sink: &mut K, fault: &BestFault) -> Status
-    ensures memory { fault.now ≡ best_fault.Memory → (result ≡ Status.Memory) × ((K.state sink.new).held ≡ (K.state sink.old).held) }
-    ensures refused { (fault.now ≡ best_fault.Memory → ⊥) → IsPut (K.state sink.old) (K.state sink.new) (refusal_line (best_reason fault.now)) Status.Refused result }
+    ensures memory { fault.now ≡ best_fault.Memory
+        → (result ≡ Status.Memory) × ((K.state sink.new).held ≡ (K.state sink.old).held) }
+    ensures refused { (fault.now ≡ best_fault.Memory → ⊥) → IsPut (K.state sink.old)
+        (K.state sink.new) (refusal_line (best_reason fault.now)) Status.Refused result }
 {
     match fault {
         BestFault::Memory => Status::Memory,
@@ -144,8 +154,10 @@ pub(crate) fn put_best_refusal<K: Sink>(sink: &mut K, fault: &BestFault) -> Stat
 
 /// Adds the line of the refusal of a dump. Out of memory has no line: the status tells it.
 pub(crate) fn put_wave_refusal<K: Sink>(sink: &mut K, fault: &WaveFault) -> Status
-    ensures memory { fault.now ≡ wave_fault.Memory → (result ≡ Status.Memory) × ((K.state sink.new).held ≡ (K.state sink.old).held) }
-    ensures refused { (line : ℕ) → fault.now ≡ wave_fault.WaveSyntax line → IsPut (K.state sink.old) (K.state sink.new) (refusal_line (wave_reason line)) Status.Refused result }
+    ensures memory { fault.now ≡ wave_fault.Memory
+        → (result ≡ Status.Memory) × ((K.state sink.new).held ≡ (K.state sink.old).held) }
+    ensures refused { (line : ℕ) → fault.now ≡ wave_fault.WaveSyntax line → IsPut (K.state sink.old)
+        (K.state sink.new) (refusal_line (wave_reason line)) Status.Refused result }
 {
     match fault {
         WaveFault::Memory => Status::Memory,

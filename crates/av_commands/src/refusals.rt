@@ -13,7 +13,8 @@ use av_vread::VFault;
 use av_vtext::write_point;
 
 fn put_number<K: Sink>(page: &mut Page, sink: &mut K, words: &str, number: u32)
-    ensures { Puts (K.state sink.old) (K.state sink.new) page.old page.new (words.now ++ decimal number) }
+    ensures { Puts (K.state sink.old)
+        (K.state sink.new) page.old page.new (words.now ++ decimal number) }
 {
     page.put(sink, words);
     page.put_number(sink, number);
@@ -29,7 +30,8 @@ pub(crate) fn put_name<K: Sink>(page: &mut Page, sink: &mut K, words: &str, name
 
 /// Puts the words and then the place on the page.
 pub(crate) fn put_place<K: Sink>(page: &mut Page, sink: &mut K, words: &str, place: Place)
-    ensures { Puts (K.state sink.old) (K.state sink.new) page.old page.new (words.now ++ place_text place) }
+    ensures { Puts (K.state sink.old)
+        (K.state sink.new) page.old page.new (words.now ++ place_text place) }
 {
     page.put(sink, words);
     page.put_number(sink, place.line);
@@ -38,7 +40,8 @@ pub(crate) fn put_place<K: Sink>(page: &mut Page, sink: &mut K, words: &str, pla
 }
 
 fn put_verilog_reason<K: Sink>(page: &mut Page, sink: &mut K, fault: &VFault)
-    ensures { Puts (K.state sink.old) (K.state sink.new) page.old page.new (verilog_reason fault.now) }
+    ensures { Puts (K.state sink.old)
+        (K.state sink.new) page.old page.new (verilog_reason fault.now) }
 {
     match fault {
         VFault::VByte(place) => put_place(page, sink, "verilog bad byte ", *place),
@@ -72,9 +75,11 @@ fn put_data_reason<K: Sink>(page: &mut Page, sink: &mut K, fault: &DataFault)
 
 /// Writes the line of the refusal of a design text.
 pub(crate) fn write_verilog_refusal<K: Sink>(fault: &VFault, sink: &mut K) -> Result<(), WriteFault>
-    ensures added { OnOk result (Adds (K.state sink.old).held (K.state sink.new).held (refusal_line (verilog_reason fault.now))) }
+    ensures added { OnOk result (Adds
+        (K.state sink.old).held (K.state sink.new).held (refusal_line (verilog_reason fault.now))) }
     ensures fault { IsErr result → HasRisen (K.state sink.old).faults (K.state sink.new).faults }
-    ensures front { OnErr result (AddsPrefix (K.state sink.old).held (K.state sink.new).held (refusal_line (verilog_reason fault.now))) }
+    ensures front { OnErr result (AddsPrefix
+        (K.state sink.old).held (K.state sink.new).held (refusal_line (verilog_reason fault.now))) }
 {
     let mut page = Page::new();
     page.put(sink, "refused: ");
@@ -85,9 +90,11 @@ pub(crate) fn write_verilog_refusal<K: Sink>(fault: &VFault, sink: &mut K) -> Re
 
 /// Writes the line of the refusal of a stimulus or of data.
 pub(crate) fn write_data_refusal<K: Sink>(fault: &DataFault, sink: &mut K) -> Result<(), WriteFault>
-    ensures added { OnOk result (Adds (K.state sink.old).held (K.state sink.new).held (refusal_line (data_reason fault.now))) }
+    ensures added { OnOk result (Adds
+        (K.state sink.old).held (K.state sink.new).held (refusal_line (data_reason fault.now))) }
     ensures fault { IsErr result → HasRisen (K.state sink.old).faults (K.state sink.new).faults }
-    ensures front { OnErr result (AddsPrefix (K.state sink.old).held (K.state sink.new).held (refusal_line (data_reason fault.now))) }
+    ensures front { OnErr result (AddsPrefix
+        (K.state sink.old).held (K.state sink.new).held (refusal_line (data_reason fault.now))) }
 {
     let mut page = Page::new();
     page.put(sink, "refused: ");
@@ -98,9 +105,11 @@ pub(crate) fn write_data_refusal<K: Sink>(fault: &DataFault, sink: &mut K) -> Re
 
 /// Writes the line of the refusal of a dump.
 pub(crate) fn write_wave_refusal<K: Sink>(line: u32, sink: &mut K) -> Result<(), WriteFault>
-    ensures added { OnOk result (Adds (K.state sink.old).held (K.state sink.new).held (refusal_line (wave_reason line))) }
+    ensures added { OnOk result
+        (Adds (K.state sink.old).held (K.state sink.new).held (refusal_line (wave_reason line))) }
     ensures fault { IsErr result → HasRisen (K.state sink.old).faults (K.state sink.new).faults }
-    ensures front { OnErr result (AddsPrefix (K.state sink.old).held (K.state sink.new).held (refusal_line (wave_reason line))) }
+    ensures front { OnErr result (AddsPrefix
+        (K.state sink.old).held (K.state sink.new).held (refusal_line (wave_reason line))) }
 {
     let mut page = Page::new();
     page.put(sink, "refused: ");

@@ -55,7 +55,9 @@ pub fn answer_run<K: Sink>(
     sink: &mut K,
 ) -> Status
     requires { length bytes.now ≤ 1048576 }
-    ensures { IsAnswered (RefusesRunWith words.now width.bits reach.size bytes.now) (GivesReportWith report words.now width.bits reach.size bytes.now) (K.state sink.old) (K.state sink.new) result }
+    ensures { IsAnswered (RefusesRunWith words.now width.bits reach.size bytes.now)
+        (GivesReportWith report words.now width.bits reach.size bytes.now)
+        (K.state sink.old) (K.state sink.new) result }
 {
     let sizes = match sizes(alloc, words) {
         Err(Memory) => return Status::Memory,
@@ -83,7 +85,9 @@ fn report_on<K: Sink>(
     requires clockable { IsClockable compiled.timed compiled.design }
     requires cycles { compiled.cells.cycles ≤ 4096 }
     requires lines { first_line + length bytes.now < 4294967295 }
-    ensures { IsAnswered (RefusesLines compiled.timed first_line bytes.now) (GivesReported report compiled.timed compiled.cells compiled.plan compiled.design bytes.now) (K.state sink.old) (K.state sink.new) result }
+    ensures { IsAnswered (RefusesLines compiled.timed first_line bytes.now)
+        (GivesReported report compiled.timed compiled.cells compiled.plan compiled.design bytes.now)
+        (K.state sink.old) (K.state sink.new) result }
 {
     let status = report_compiled(alloc, &compiled, bytes, first_line, report, sink);
     let_go(compiled);
@@ -103,7 +107,9 @@ fn report_compiled<K: Sink>(
     requires clockable { IsClockable compiled.now.timed compiled.now.design }
     requires cycles { compiled.now.cells.cycles ≤ 4096 }
     requires lines { first_line + length bytes.now < 4294967295 }
-    ensures { IsAnswered (RefusesLines compiled.now.timed first_line bytes.now) (GivesReported report compiled.now.timed compiled.now.cells compiled.now.plan compiled.now.design bytes.now) (K.state sink.old) (K.state sink.new) result }
+    ensures { IsAnswered (RefusesLines compiled.now.timed first_line bytes.now)
+        (GivesReported report compiled.now.timed compiled.now.cells compiled.now.plan
+        compiled.now.design bytes.now) (K.state sink.old) (K.state sink.new) result }
 {
     match read_data(alloc, bytes, first_line, &compiled.timed.flat) {
         Err(fault) => put_data_refusal(sink, &fault),
@@ -119,7 +125,9 @@ fn report_compiled<K: Sink>(
 fn put_results<K: Sink>(alloc: Global, compiled: &Compiled, inputs: &Inputs, sink: &mut K) -> Status
     requires clockable { IsClockable compiled.now.timed compiled.now.design }
     requires inputs { AreInputs (view_system compiled.now.timed.flat) (words_of inputs.now) }
-    ensures { PutsOneOf (IsReport report.Results compiled.now.timed compiled.now.cells compiled.now.plan compiled.now.design (words_of inputs.now)) (K.state sink.old) (K.state sink.new) result }
+    ensures { PutsOneOf (IsReport report.Results compiled.now.timed
+        compiled.now.cells compiled.now.plan compiled.now.design (words_of inputs.now))
+        (K.state sink.old) (K.state sink.new) result }
 {
     match shown(alloc, &compiled.design, inputs) {
         Err(Memory) => Status::Memory,
@@ -162,9 +170,13 @@ pub(crate) fn write_results<K: Sink>(
     sink: &mut K,
 ) -> Result<(), WriteFault>
     requires { length words.now ≡ length lines.now }
-    ensures added { OnOk result (Adds (K.state sink.old).held (K.state sink.new).held (results (λ line. names_output (view_system flat.now) line.variable) lines.now (bits_of words.now))) }
+    ensures added { OnOk result (Adds (K.state sink.old).held (K.state sink.new).held
+        (results (λ line. names_output (view_system flat.now) line.variable) lines.now
+        (bits_of words.now))) }
     ensures fault { IsErr result → HasRisen (K.state sink.old).faults (K.state sink.new).faults }
-    ensures front { OnErr result (AddsPrefix (K.state sink.old).held (K.state sink.new).held (results (λ line. names_output (view_system flat.now) line.variable) lines.now (bits_of words.now))) }
+    ensures front { OnErr result (AddsPrefix (K.state sink.old).held (K.state sink.new).held
+        (results (λ line. names_output (view_system flat.now) line.variable) lines.now
+        (bits_of words.now))) }
     ensures later { (K.state sink.old).faults ≤ (K.state sink.new).faults }
 {
     for (k, line) in lines.iter().enumerate() {
@@ -180,7 +192,9 @@ fn put_trace<K: Sink>(alloc: Global, compiled: &Compiled, inputs: &Inputs, sink:
     requires plan { IsSoundPlan compiled.now.plan }
     requires clockable { IsClockable compiled.now.timed compiled.now.design }
     requires inputs { AreInputs (view_system compiled.now.timed.flat) (words_of inputs.now) }
-    ensures { PutsOneOf (IsReport report.Trace compiled.now.timed compiled.now.cells compiled.now.plan compiled.now.design (words_of inputs.now)) (K.state sink.old) (K.state sink.new) result }
+    ensures { PutsOneOf (IsReport report.Trace compiled.now.timed
+        compiled.now.cells compiled.now.plan compiled.now.design (words_of inputs.now))
+        (K.state sink.old) (K.state sink.new) result }
 {
     let design = &compiled.design;
     match feed(alloc, design, inputs, compiled.cells.cycles) {
@@ -200,7 +214,9 @@ fn put_wave<K: Sink>(alloc: Global, compiled: &Compiled, inputs: &Inputs, sink: 
     requires clockable { IsClockable compiled.now.timed compiled.now.design }
     requires cycles { compiled.now.cells.cycles ≤ 4096 }
     requires inputs { AreInputs (view_system compiled.now.timed.flat) (words_of inputs.now) }
-    ensures { PutsOneOf (IsReport report.Wave compiled.now.timed compiled.now.cells compiled.now.plan compiled.now.design (words_of inputs.now)) (K.state sink.old) (K.state sink.new) result }
+    ensures { PutsOneOf (IsReport report.Wave compiled.now.timed
+        compiled.now.cells compiled.now.plan compiled.now.design (words_of inputs.now))
+        (K.state sink.old) (K.state sink.new) result }
 {
     match feed(alloc, &compiled.design, inputs, compiled.cells.cycles) {
         Err(Memory) => Status::Memory,
@@ -221,7 +237,8 @@ fn write_trace<K: Sink>(
 ) -> Result<(), WriteFault>
     requires plan { IsSoundPlan compiled.now.plan }
     requires prepared { IsPrepared compiled.now.design.module parts.old }
-    requires left { AreLeft compiled.now.design.module.inputs stimulus.now.values 0 0 stimulus.now.values }
+    requires left { AreLeft compiled.now.design.module.inputs
+        stimulus.now.values 0 0 stimulus.now.values }
     ensures added { OnOk result ((stream : Ports) (run : Clocked) → IsStimulated compiled.now.design.module stimulus.now stream → IsRun compiled.now.design.module stimulus.now.cycles stream run
         → Adds (K.state sink.old).held (K.state sink.new).held (text2 compiled.now.plan ++ codes "%%\n" ++ run_lines compiled.now.design.module run.in_cycle stimulus.now.cycles)) }
     ensures fault { IsErr result → HasRisen (K.state sink.old).faults (K.state sink.new).faults }

@@ -33,7 +33,8 @@ pub trait Data {
     /// absolute value.
     fn word(&self, variable: &Name, point: &Point) -> Option<Word>
         requires { AreSmall point.now }
-        ensures some { IfSome result (λ word. words self.now variable.now point.now ≡ Some word.bits) }
+        ensures some { IfSome result (λ word.
+            words self.now variable.now point.now ≡ Some word.bits) }
         ensures none { IfNone result (words self.now variable.now point.now ≡ None) };
 }
 
@@ -53,7 +54,8 @@ pub fn shown<D: Data>(alloc: Global, design: &Design, inputs: &D) -> Result<List
     requires sound { IsSoundDesign design.now }
     requires apart { AreApart design.now.listing.ins }
     requires words { HaveFittingWords design.now (D.words inputs.now) }
-    ensures { IfOk result (λ words. AreShown design.now (D.words inputs.now) (map (λ w. w.bits) words)) }
+    ensures { IfOk result (λ words.
+        AreShown design.now (D.words inputs.now) (map (λ w. w.bits) words)) }
 {
     let lines = design.listing.ats.as_slice();
     let stimulus = feed(alloc, design, inputs, cycles_of(lines))?;
@@ -71,7 +73,8 @@ pub(crate) fn feed<D: Data>(
     requires apart { AreApart design.now.listing.ins }
     requires words { HaveFittingWords design.now (D.words values.now) }
     ensures cycles { IfOk result (λ s. s.cycles ≡ cycles) }
-    ensures values { IfOk result (λ s. AreOfLines design.now (D.words values.now) (length design.now.listing.ins) s.values) }
+    ensures values { IfOk result (λ s.
+        AreOfLines design.now (D.words values.now) (length design.now.listing.ins) s.values) }
 {
     let ports = port_places(alloc, design.module.inputs.as_slice())?;
     are_numbered(&design.module.inputs);
@@ -98,7 +101,8 @@ pub(crate) fn feed_each<D: Data>(
     requires words { All (λ x. HaveFittingWords design.now (D.words x)) problems.now }
     requires few { length problems.now * period ≤ 8192 }
     ensures cycles { IfOk result (λ s. s.cycles ≡ cycles) }
-    ensures values { IfOk result (λ s. AreOfProblems design.now period (map D.words problems.now) s.values) }
+    ensures values { IfOk result (λ s.
+        AreOfProblems design.now period (map D.words problems.now) s.values) }
 {
     let ports = port_places(alloc, design.module.inputs.as_slice())?;
     are_numbered(&design.module.inputs);
@@ -203,7 +207,8 @@ fn watch(
     requires sound { IsSound of.now }
     requires left { AreLeft of.now.inputs stimulus.now.values 0 0 stimulus.now.values }
     requires wires { All (λ line. Contains (wire_names of.now) line.wire) lines.now }
-    ensures { IfOk result (λ words. (stream : Ports) (run : Clocked) → IsStimulated of.now stimulus.now stream → IsRun of.now stimulus.now.cycles stream run
+    ensures { IfOk result (λ words. (stream : Ports) (run : Clocked)
+        → IsStimulated of.now stimulus.now stream → IsRun of.now stimulus.now.cycles stream run
         → bits_of words ≡ watched run.in_cycle stimulus.now.cycles lines.now) }
 {
     let inputs = of.inputs.len() as u32;
@@ -239,7 +244,8 @@ fn clock_and_note(
     requires left { AreLeft clock.old.of.inputs stimulus.now.values 0 0 stimulus.now.values }
     requires taps { AreTaps clock.old.of lines.now (length lines.now) taps.now }
     requires zeros { (length words.old ≡ length lines.now) × All (λ w. w.bits ≡ 0) words.old }
-    ensures { (stream : Ports) (run : Clocked) → IsStimulated clock.old.of stimulus.now stream → IsRun clock.old.of stimulus.now.cycles stream run
+    ensures { (stream : Ports) (run : Clocked) → IsStimulated clock.old.of stimulus.now stream
+        → IsRun clock.old.of stimulus.now.cycles stream run
         → bits_of words.new ≡ watched run.in_cycle stimulus.now.cycles lines.now }
 {
     let given = stimulus.values.as_slice();

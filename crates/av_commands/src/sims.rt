@@ -45,7 +45,8 @@ fn sim_module<K: Sink>(
 ) -> Status
     requires sound { IsSound of.now }
     requires lines { first_line + length bytes.now < 4294967295 }
-    ensures { IsAnswered (RefusesStimulus of.now bytes.now first_line) (GivesRun of.now bytes.now) (K.state sink.old) (K.state sink.new) result }
+    ensures { IsAnswered (RefusesStimulus of.now bytes.now first_line)
+        (GivesRun of.now bytes.now) (K.state sink.old) (K.state sink.new) result }
 {
     match read_stimulus(alloc, bytes, first_line, of) {
         Err(fault) => put_data_refusal(sink, &fault),
@@ -56,7 +57,8 @@ fn sim_module<K: Sink>(
 /// Answers a design text, a line `%%` and a stimulus.
 pub fn sim<K: Sink>(alloc: Global, bytes: &[u8], sink: &mut K) -> Status
     requires { length bytes.now ≤ 1048576 }
-    ensures { IsAnswered (RefusesSim bytes.now) (GivesSim bytes.now) (K.state sink.old) (K.state sink.new) result }
+    ensures { IsAnswered (RefusesSim bytes.now)
+        (GivesSim bytes.now) (K.state sink.old) (K.state sink.new) result }
 {
     let Some(parts) = divide(bytes) else {
         return put(sink, NO_MARK, Status::Refused);

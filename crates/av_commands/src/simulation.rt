@@ -52,8 +52,10 @@ pub(crate) fn run<K: Sink>(
 ) -> Result<(), WriteFault>
     requires prepared { IsPrepared parts.old.clock.of parts.old }
     requires left { AreLeft parts.old.clock.of.inputs stimulus.now.values 0 0 stimulus.now.values }
-    ensures added { OnOk result ((stream : Inputs) (run : Clocked) → IsStimulated parts.old.clock.of stimulus.now stream → IsRun parts.old.clock.of stimulus.now.cycles stream run
-        → Adds (K.state sink.old).held (K.state sink.new).held (run_lines parts.old.clock.of run.in_cycle stimulus.now.cycles)) }
+    ensures added { OnOk result ((stream : Inputs) (run : Clocked)
+        → IsStimulated parts.old.clock.of stimulus.now stream
+        → IsRun parts.old.clock.of stimulus.now.cycles stream run → Adds (K.state sink.old).held
+        (K.state sink.new).held (run_lines parts.old.clock.of run.in_cycle stimulus.now.cycles)) }
     ensures fault { IsErr result → HasRisen (K.state sink.old).faults (K.state sink.new).faults }
     ensures front { OnErr result ((stream : Inputs) (run : Clocked) → IsStimulated parts.old.clock.of stimulus.now stream → IsRun parts.old.clock.of stimulus.now.cycles stream run
         → AddsPrefix (K.state sink.old).held (K.state sink.new).held (run_lines parts.old.clock.of run.in_cycle stimulus.now.cycles)) }

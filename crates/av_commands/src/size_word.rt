@@ -20,7 +20,8 @@ pub fn is_size(word: &[u8]) -> bool
 
 // Whether a `=` and a value stand here.
 fn is_given(text: &[u8]) -> bool
-    ensures { IsTrue result ↔ ((value : Items ℕ) × (z : ℤ) × (text.now ≡ codes "=" ++ value) × SpellsWhole value z × (unsigned_abs z ≤ 1048576)) }
+    ensures { IsTrue result ↔ ((value : Items ℕ) × (z : ℤ)
+        × (text.now ≡ codes "=" ++ value) × SpellsWhole value z × (unsigned_abs z ≤ 1048576)) }
 {
     match text.strip_prefix(b"=") {
         Some(value) => size_value(value).is_some(),

@@ -24,7 +24,8 @@ pub(crate) fn sizes(alloc: Global, words: &[Name]) -> Result<List<Size>, Memory>
 
 // The size that the word is, where it is one.
 fn size_in(alloc: Global, word: &str) -> Result<Option<Size>, Memory>
-    ensures { IfOk result (λ found. MatchOption found (IsSize word.now → ⊥) (λ size. (is : IsSize word.now) × (size ≡ size_of is))) }
+    ensures { IfOk result (λ found. MatchOption found (IsSize word.now → ⊥) (λ size.
+        (is : IsSize word.now) × (size ≡ size_of is))) }
 {
     if !is_size(word.as_bytes()) {
         return Ok(None);

@@ -57,7 +57,9 @@ pub fn stream<K: Sink>(
     sink: &mut K,
 ) -> Status
     requires { length bytes.now ≤ 1048576 }
-    ensures { IsAnswered (RefusesStreamWith words.now width.bits reach.size bytes.now) (GivesStreamWith words.now width.bits reach.size bytes.now) (K.state sink.old) (K.state sink.new) result }
+    ensures { IsAnswered (RefusesStreamWith words.now width.bits reach.size bytes.now)
+        (GivesStreamWith words.now width.bits reach.size bytes.now)
+        (K.state sink.old) (K.state sink.new) result }
 {
     let sizes = match sizes(alloc, words) {
         Err(Memory) => return Status::Memory,
@@ -84,7 +86,8 @@ fn stream_on<K: Sink>(
     requires whole { IsWhole array.now.timed array.now.cells }
     requires within { (f : Fault) → IsSpaceFault array.now.timed f → f ≡ fault.Memory }
     requires lines { first_line + length bytes.now < 4294967294 }
-    ensures { IsAnswered (RefusesSets array.now first_line bytes.now) (GivesSets array.now first_line bytes.now) (K.state sink.old) (K.state sink.new) result }
+    ensures { IsAnswered (RefusesSets array.now first_line bytes.now)
+        (GivesSets array.now first_line bytes.now) (K.state sink.old) (K.state sink.new) result }
 {
     let sets = match data_sets(alloc, bytes, first_line) {
         Err(Memory) => return Status::Memory,
@@ -111,9 +114,11 @@ fn stream_cycles(cycles: u32, period: u32, count: usize) -> u128
 
 // Writes the line of the refusal of too many cycles.
 fn write_cycles_refusal<K: Sink>(cycles: u128, sink: &mut K) -> Result<(), WriteFault>
-    ensures added { OnOk result (Adds (K.state sink.old).held (K.state sink.new).held (refusal_line (cycles_reason cycles))) }
+    ensures added { OnOk result (Adds
+        (K.state sink.old).held (K.state sink.new).held (refusal_line (cycles_reason cycles))) }
     ensures fault { IsErr result → HasRisen (K.state sink.old).faults (K.state sink.new).faults }
-    ensures front { OnErr result (AddsPrefix (K.state sink.old).held (K.state sink.new).held (refusal_line (cycles_reason cycles))) }
+    ensures front { OnErr result (AddsPrefix
+        (K.state sink.old).held (K.state sink.new).held (refusal_line (cycles_reason cycles))) }
 {
     let mut page = Page::new();
     page.put(sink, "refused: stream cycles ");
@@ -124,7 +129,8 @@ fn write_cycles_refusal<K: Sink>(cycles: u128, sink: &mut K) -> Result<(), Write
 
 // Adds the line of the refusal of too many cycles.
 fn put_cycles_refusal<K: Sink>(sink: &mut K, cycles: u128) -> Status
-    ensures { IsPut (K.state sink.old) (K.state sink.new) (refusal_line (cycles_reason cycles)) Status.Refused result }
+    ensures { IsPut (K.state sink.old)
+        (K.state sink.new) (refusal_line (cycles_reason cycles)) Status.Refused result }
 {
     match write_cycles_refusal(cycles, sink) {
         Ok(()) => Status::Refused,
@@ -140,9 +146,11 @@ pub(crate) fn read_sets(
 ) -> Result<List<Inputs>, DataFault>
     requires chained { IsChained (view_system flat.now) }
     requires lines { All (λ set. set.first_line + length set.bytes.now < 4294967295) sets.now }
-    ensures spelled { IfOk result (λ inputs. AreSpelled (view_system flat.now) sets.now (map words_of inputs)) }
+    ensures spelled { IfOk result (λ inputs.
+        AreSpelled (view_system flat.now) sets.now (map words_of inputs)) }
     ensures words { IfOk result (All (λ x. AreInputs (view_system flat.now) (words_of x))) }
-    ensures fault { IfErr result (λ f. f ≢ data_fault.Memory → IsFirstBadSet (view_system flat.now) sets.now f) }
+    ensures fault { IfErr result (λ f. f ≢ data_fault.Memory
+        → IsFirstBadSet (view_system flat.now) sets.now f) }
 {
     let mut inputs = List::new(alloc);
     for set in sets {
@@ -162,10 +170,13 @@ fn put_stream<K: Sink>(
     requires legal { IsLegal array.now.timed }
     requires whole { IsWhole array.now.timed array.now.cells }
     requires within { (f : Fault) → IsSpaceFault array.now.timed f → f ≡ fault.Memory }
-    requires words { All (λ x. AreInputs (view_system array.now.timed.flat) (words_of x)) inputs.now }
-    requires short { (period : ℕ) → HasPeriod array.now.timed array.now.cells period → cycles ≡ stream_cycles array.now.cells.cycles period (length inputs.now) }
+    requires words { All (λ x. AreInputs (view_system array.now.timed.flat) (words_of x))
+        inputs.now }
+    requires short { (period : ℕ) → HasPeriod array.now.timed array.now.cells period
+        → cycles ≡ stream_cycles array.now.cells.cycles period (length inputs.now) }
     requires few { (0 < length inputs.now) × (cycles ≤ 4096) }
-    ensures { PutsOneOf (IsStreamOn array.now cycles (map words_of inputs.now)) (K.state sink.old) (K.state sink.new) result }
+    ensures { PutsOneOf (IsStreamOn array.now cycles (map words_of inputs.now))
+        (K.state sink.old) (K.state sink.new) result }
 {
     match build_stream(alloc, &array.timed, &array.cells) {
         Err(Memory) => Status::Memory,
@@ -183,9 +194,11 @@ fn clock_plan<K: Sink>(
 ) -> Status
     requires plan { IsSoundPlan streamed.now.plan }
     requires apart { AreApartEach (flat_of streamed.now.plan).listing.ins streamed.now.period }
-    requires words { All (λ x. HaveFittingWords (flat_of streamed.now.plan) (words_of x)) inputs.now }
+    requires words { All (λ x. HaveFittingWords (flat_of streamed.now.plan) (words_of x))
+        inputs.now }
     requires few { length inputs.now * streamed.now.period ≤ 8192 }
-    ensures { PutsOneOf (IsStreamed cycles streamed.now (map words_of inputs.now)) (K.state sink.old) (K.state sink.new) result }
+    ensures { PutsOneOf (IsStreamed cycles streamed.now (map words_of inputs.now))
+        (K.state sink.old) (K.state sink.new) result }
 {
     match flatten(alloc, &streamed.plan) {
         Err(Memory) => Status::Memory,
@@ -207,7 +220,8 @@ fn clock_stream<K: Sink>(
     requires apart { AreApartEach design.now.listing.ins streamed.now.period }
     requires words { All (λ x. HaveFittingWords design.now (words_of x)) inputs.now }
     requires few { length inputs.now * streamed.now.period ≤ 8192 }
-    ensures { PutsOneOf (IsStreamed cycles streamed.now (map words_of inputs.now)) (K.state sink.old) (K.state sink.new) result }
+    ensures { PutsOneOf (IsStreamed cycles streamed.now (map words_of inputs.now))
+        (K.state sink.old) (K.state sink.new) result }
 {
     let stimulus = match feed_each(alloc, design, inputs, streamed.period, cycles) {
         Err(Memory) => return Status::Memory,
@@ -231,7 +245,8 @@ fn write_run<K: Sink>(
 ) -> Result<(), WriteFault>
     requires plan { IsSoundPlan streamed.now.plan }
     requires prepared { IsPrepared (flat_module streamed.now.plan) parts.old }
-    requires left { AreLeft (flat_module streamed.now.plan).inputs stimulus.now.values 0 0 stimulus.now.values }
+    requires left { AreLeft (flat_module streamed.now.plan).inputs
+        stimulus.now.values 0 0 stimulus.now.values }
     ensures added { OnOk result ((stream : Ports) (run : Clocked) → IsStimulated (flat_module streamed.now.plan) stimulus.now stream → IsRun (flat_module streamed.now.plan) stimulus.now.cycles stream run
         → Adds (K.state sink.old).held (K.state sink.new).held (stream_text streamed.now ++ codes "%%\n" ++ run_lines (flat_module streamed.now.plan) run.in_cycle stimulus.now.cycles)) }
     ensures fault { IsErr result → HasRisen (K.state sink.old).faults (K.state sink.new).faults }

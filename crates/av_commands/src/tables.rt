@@ -22,7 +22,9 @@ pub fn table<K: Sink>(
     sink: &mut K,
 ) -> Status
     requires { length bytes.now ≤ 1048576 }
-    ensures { IsAnswered (RefusesTableWith words.now width.bits reach.size bytes.now) (GivesTableWith words.now width.bits reach.size bytes.now) (K.state sink.old) (K.state sink.new) result }
+    ensures { IsAnswered (RefusesTableWith words.now width.bits reach.size bytes.now)
+        (GivesTableWith words.now width.bits reach.size bytes.now)
+        (K.state sink.old) (K.state sink.new) result }
 {
     let sizes = match sizes(alloc, words) {
         Err(Memory) => return Status::Memory,

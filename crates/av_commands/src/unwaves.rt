@@ -16,7 +16,8 @@ use std::alloc::Global;
 /// Answers a value change dump.
 pub fn unwave<K: Sink>(alloc: Global, bytes: &[u8], sink: &mut K) -> Status
     requires { length bytes.now ≤ 1048576 }
-    ensures { IsAnswered (RefusesUnwave bytes.now) (GivesUnwave bytes.now) (K.state sink.old) (K.state sink.new) result }
+    ensures { IsAnswered (RefusesUnwave bytes.now)
+        (GivesUnwave bytes.now) (K.state sink.old) (K.state sink.new) result }
 {
     match read_wave(alloc, bytes) {
         Err(fault) => put_wave_refusal(sink, &fault),
@@ -26,7 +27,8 @@ pub fn unwave<K: Sink>(alloc: Global, bytes: &[u8], sink: &mut K) -> Status
 
 // Adds the line of each cycle.
 fn put_cycles<K: Sink>(alloc: Global, wave: &Wave, sink: &mut K) -> Status
-    ensures { PutsOneOf (λ out. out ≡ wave_lines wave.now wave.now.cycles) (K.state sink.old) (K.state sink.new) result }
+    ensures { PutsOneOf (λ out. out ≡ wave_lines wave.now wave.now.cycles)
+        (K.state sink.old) (K.state sink.new) result }
 {
     match zeros(alloc, wave.ports.len()) {
         Err(Memory) => Status::Memory,
@@ -40,9 +42,11 @@ fn put_cycles<K: Sink>(alloc: Global, wave: &Wave, sink: &mut K) -> Status
 // Writes the line of each cycle. The words are those of the ports before the first one. It takes no memory.
 fn write_cycles<K: Sink>(wave: &Wave, words: &mut List<u64>, sink: &mut K) -> Result<(), WriteFault>
     requires { words.old ≡ replicate (length wave.now.ports) 0 }
-    ensures added { OnOk result (Adds (K.state sink.old).held (K.state sink.new).held (wave_lines wave.now wave.now.cycles)) }
+    ensures added { OnOk result (Adds
+        (K.state sink.old).held (K.state sink.new).held (wave_lines wave.now wave.now.cycles)) }
     ensures fault { IsErr result → HasRisen (K.state sink.old).faults (K.state sink.new).faults }
-    ensures front { OnErr result (AddsPrefix (K.state sink.old).held (K.state sink.new).held (wave_lines wave.now wave.now.cycles)) }
+    ensures front { OnErr result (AddsPrefix
+        (K.state sink.old).held (K.state sink.new).held (wave_lines wave.now wave.now.cycles)) }
 {
     let ports = wave.ports.as_slice();
     let changes = wave.changes.as_slice();

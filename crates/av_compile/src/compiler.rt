@@ -72,25 +72,31 @@ pub fn compile(
     requires small { AreSmall sizes.now }
 
     // The equations have one solution for every input, and the plan's flat design shows it, whatever stands on idle ports.
-    ensures headline { IfOk result (λ to. Headline bytes.now sizes.now width.bits reach.size to.timed to.cells to.plan) }
+    ensures headline { IfOk result (λ to.
+        Headline bytes.now sizes.now width.bits reach.size to.timed to.cells to.plan) }
 
     // That design is the last field.
     ensures design { IfOk result (λ to. to.design ≡ flat_of to.plan) }
 
     // The system and the array are those that `mapped` gives: no step finds a fault.
-    ensures mapped { IfOk result (λ to. IsMapped bytes.now sizes.now width.bits reach.size to.timed to.cells) }
+    ensures mapped { IfOk result (λ to.
+        IsMapped bytes.now sizes.now width.bits reach.size to.timed to.cells) }
 
     // The first field is the system that the schedule is for.
-    ensures flat { IfOk result (λ to. Serialises bytes.now sizes.now width.bits (view_system to.flat)) }
+    ensures flat { IfOk result (λ to.
+        Serialises bytes.now sizes.now width.bits (view_system to.flat)) }
 
     // A text is refused for its first fault, unless memory runs out.
-    ensures refused { (f : Refused) → result ≡ Err f → f ≢ refusal.Memory → IsUnmapped bytes.now sizes.now width.bits reach.size f }
+    ensures refused { (f : Refused) → result ≡ Err f
+        → f ≢ refusal.Memory → IsUnmapped bytes.now sizes.now width.bits reach.size f }
 
     // Where a text has a first fault, it is refused for that one, unless memory runs out.
-    ensures cause { (f : Refused) → IsUnmapped bytes.now sizes.now width.bits reach.size f → f ≢ refusal.Memory → (result ≡ Err f) ⊎ (result ≡ Err refusal.Memory) }
+    ensures cause { (f : Refused) → IsUnmapped bytes.now sizes.now width.bits reach.size f
+        → f ≢ refusal.Memory → (result ≡ Err f) ⊎ (result ≡ Err refusal.Memory) }
 
     // A system with a first schedule, whose array is within the limits, is not refused.
-    ensures complete { (t : System) → IsPipelined bytes.now sizes.now width.bits reach.size t → HasArray t → IfErr result (λ f. f ≡ refusal.Memory) }
+    ensures complete { (t : System) → IsPipelined bytes.now sizes.now width.bits reach.size t
+        → HasArray t → IfErr result (λ f. f ≡ refusal.Memory) }
 {
     let MappedSystem { timed, cells } = mapped(alloc, bytes, sizes, width, reach)?;
     let flat = copy_flat(alloc, &timed.flat)?;

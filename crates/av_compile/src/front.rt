@@ -28,8 +28,10 @@ pub(crate) fn flattened(
     requires small { AreSmall sizes.now }
     ensures found { IfOk result (λ to. Flattens bytes.now sizes.now width.bits (view_system to)) }
     ensures well_formed { IfOk result (λ to. IsWellFormed (view_system to)) }
-    ensures refused { (f : Refused) → result ≡ Err f → f ≢ refusal.Memory → IsRefused bytes.now sizes.now width.bits f }
-    ensures complete { (s : FlatSystem) → Flattens bytes.now sizes.now width.bits s → IfErr result (λ f. f ≡ refusal.Memory) }
+    ensures refused { (f : Refused) → result ≡ Err f
+        → f ≢ refusal.Memory → IsRefused bytes.now sizes.now width.bits f }
+    ensures complete { (s : FlatSystem)
+        → Flattens bytes.now sizes.now width.bits s → IfErr result (λ f. f ≡ refusal.Memory) }
 {
     let tokens = lex(alloc, bytes)?;
     let system = parse(alloc, tokens.as_slice())?;
@@ -49,13 +51,16 @@ pub fn checked(alloc: Global, bytes: &[u8], sizes: &[Size], width: Width) -> Res
     ensures found { IfOk result (λ to. IsChecked bytes.now sizes.now width.bits (view_system to)) }
 
     // A text is refused for its first fault, unless memory runs out.
-    ensures refused { (f : Refused) → result ≡ Err f → f ≢ refusal.Memory → IsRefused bytes.now sizes.now width.bits f }
+    ensures refused { (f : Refused) → result ≡ Err f
+        → f ≢ refusal.Memory → IsRefused bytes.now sizes.now width.bits f }
 
     // Where a text has a first fault, it is refused for that one, unless memory runs out.
-    ensures cause { (f : Refused) → IsRefused bytes.now sizes.now width.bits f → f ≢ refusal.Memory → (result ≡ Err f) ⊎ (result ≡ Err refusal.Memory) }
+    ensures cause { (f : Refused) → IsRefused bytes.now sizes.now width.bits f
+        → f ≢ refusal.Memory → (result ≡ Err f) ⊎ (result ≡ Err refusal.Memory) }
 
     // A proper system that has a normal form is not refused.
-    ensures complete { (s : FlatSystem) → Flattens bytes.now sizes.now width.bits s → HasNormalForm s → IsProper s → IfErr result (λ f. f ≡ refusal.Memory) }
+    ensures complete { (s : FlatSystem) → Flattens bytes.now sizes.now width.bits s
+        → HasNormalForm s → IsProper s → IfErr result (λ f. f ≡ refusal.Memory) }
 {
     let flat = flattened(alloc, bytes, sizes, width)?;
     let normal = Normal.run(alloc, &flat)?;

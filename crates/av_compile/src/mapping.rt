@@ -38,19 +38,23 @@ pub fn mapped(
     requires small { AreSmall sizes.now }
 
     // What is answered is the array of what the bytes spell, with its whole listing.
-    ensures found { IfOk result (λ to. IsMapped bytes.now sizes.now width.bits reach.size to.timed to.cells) }
+    ensures found { IfOk result (λ to.
+        IsMapped bytes.now sizes.now width.bits reach.size to.timed to.cells) }
 
     // With an array the equations have just one solution, whatever the inputs.
     ensures one_solution { OnOk result (HasOneSolutionEach bytes.now sizes.now width.bits) }
 
     // A text is refused for its first fault, unless memory runs out.
-    ensures refused { (f : Refused) → result ≡ Err f → f ≢ refusal.Memory → IsUnmapped bytes.now sizes.now width.bits reach.size f }
+    ensures refused { (f : Refused) → result ≡ Err f
+        → f ≢ refusal.Memory → IsUnmapped bytes.now sizes.now width.bits reach.size f }
 
     // Where a text has a first fault, it is refused for that one, unless memory runs out.
-    ensures cause { (f : Refused) → IsUnmapped bytes.now sizes.now width.bits reach.size f → f ≢ refusal.Memory → (result ≡ Err f) ⊎ (result ≡ Err refusal.Memory) }
+    ensures cause { (f : Refused) → IsUnmapped bytes.now sizes.now width.bits reach.size f
+        → f ≢ refusal.Memory → (result ≡ Err f) ⊎ (result ≡ Err refusal.Memory) }
 
     // A system with a first schedule, whose array is within the limits, is not refused.
-    ensures complete { (t : System) → IsPipelined bytes.now sizes.now width.bits reach.size t → HasArray t → IfErr result (λ f. f ≡ refusal.Memory) }
+    ensures complete { (t : System) → IsPipelined bytes.now sizes.now width.bits reach.size t
+        → HasArray t → IfErr result (λ f. f ≡ refusal.Memory) }
 {
     let found = scheduled(alloc, bytes, sizes, width, reach)?;
     let timed = Pipe.run(alloc, &found)?;

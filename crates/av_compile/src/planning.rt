@@ -47,13 +47,16 @@ pub fn planned(
     ensures found { IfOk result (IsPlanned bytes.now sizes.now width.bits reach.size) }
 
     // A text is refused for its first fault, unless memory runs out.
-    ensures refused { (f : Refused) → result ≡ Err f → f ≢ refusal.Memory → IsUnmapped bytes.now sizes.now width.bits reach.size f }
+    ensures refused { (f : Refused) → result ≡ Err f
+        → f ≢ refusal.Memory → IsUnmapped bytes.now sizes.now width.bits reach.size f }
 
     // Where a text has a first fault, it is refused for that one, unless memory runs out.
-    ensures cause { (f : Refused) → IsUnmapped bytes.now sizes.now width.bits reach.size f → f ≢ refusal.Memory → (result ≡ Err f) ⊎ (result ≡ Err refusal.Memory) }
+    ensures cause { (f : Refused) → IsUnmapped bytes.now sizes.now width.bits reach.size f
+        → f ≢ refusal.Memory → (result ≡ Err f) ⊎ (result ≡ Err refusal.Memory) }
 
     // A system with a first schedule, whose array is within the limits, is not refused.
-    ensures complete { (t : System) → IsPipelined bytes.now sizes.now width.bits reach.size t → HasArray t → IfErr result (λ f. f ≡ refusal.Memory) }
+    ensures complete { (t : System) → IsPipelined bytes.now sizes.now width.bits reach.size t
+        → HasArray t → IfErr result (λ f. f ≡ refusal.Memory) }
 {
     let MappedSystem { timed, cells } = mapped(alloc, bytes, sizes, width, reach)?;
     let modules = modules(alloc, &timed, &cells)?;

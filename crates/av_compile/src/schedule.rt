@@ -23,8 +23,10 @@ use std::alloc::Global;
 fn chained(alloc: Global, flat: &Flat) -> Result<Flat, Refusal>
     requires { IsWellFormed (view_system flat.now) }
     ensures found { IfOk result (λ to. IsChained (view_system flat.now) (view_system to)) }
-    ensures refused { (f : Refused) → result ≡ Err f → f ≢ refusal.Memory → IsUnchained (view_system flat.now) f }
-    ensures complete { (s : FlatSystem) → IsChained (view_system flat.now) s → IfErr result (λ f. f ≡ refusal.Memory) }
+    ensures refused { (f : Refused) → result ≡ Err f
+        → f ≢ refusal.Memory → IsUnchained (view_system flat.now) f }
+    ensures complete { (s : FlatSystem)
+        → IsChained (view_system flat.now) s → IfErr result (λ f. f ≡ refusal.Memory) }
 {
     let normal = Normal.run(alloc, flat)?;
     check_normal(alloc, flat, &normal)?;
@@ -54,13 +56,16 @@ pub fn scheduled(
     ensures one_solution { OnOk result (HasOneSolutionEach bytes.now sizes.now width.bits) }
 
     // A text is refused for its first fault, unless memory runs out.
-    ensures refused { (f : Refused) → result ≡ Err f → f ≢ refusal.Memory → IsUnscheduled bytes.now sizes.now width.bits reach.size f }
+    ensures refused { (f : Refused) → result ≡ Err f
+        → f ≢ refusal.Memory → IsUnscheduled bytes.now sizes.now width.bits reach.size f }
 
     // Where a text has a first fault, it is refused for that one, unless memory runs out.
-    ensures cause { (f : Refused) → IsUnscheduled bytes.now sizes.now width.bits reach.size f → f ≢ refusal.Memory → (result ≡ Err f) ⊎ (result ≡ Err refusal.Memory) }
+    ensures cause { (f : Refused) → IsUnscheduled bytes.now sizes.now width.bits reach.size f
+        → f ≢ refusal.Memory → (result ≡ Err f) ⊎ (result ≡ Err refusal.Memory) }
 
     // A proper system whose reductions become chains, and that has a first schedule, is not refused.
-    ensures complete { (s : FlatSystem) → Serialises bytes.now sizes.now width.bits s → HasFirstSchedule s reach.size → IfErr result (λ f. f ≡ refusal.Memory) }
+    ensures complete { (s : FlatSystem) → Serialises bytes.now sizes.now width.bits s
+        → HasFirstSchedule s reach.size → IfErr result (λ f. f ≡ refusal.Memory) }
 {
     let flat = flattened(alloc, bytes, sizes, width)?;
     let serial = chained(alloc, &flat)?;

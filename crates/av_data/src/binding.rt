@@ -31,7 +31,8 @@ fn begins_point(name: &[u8], sign: &[u8]) -> bool
 
 // The entries up to the `)`, and what follows that.
 fn entries_in(text: &[u8]) -> Option<(Entries, &[u8])>
-    ensures some { IfSome result (λ r. (z : Items ℤ) × Keeps r.0.kept.items r.0.far z × (entries_in (pieces_of text.now) ≡ Some (z, pieces_of r.1.now))) }
+    ensures some { IfSome result (λ r. (z : Items ℤ) × Keeps r.0.kept.items r.0.far z
+        × (entries_in (pieces_of text.now) ≡ Some (z, pieces_of r.1.now))) }
     ensures none { IfNone result (entries_in (pieces_of text.now) ≡ None) }
 {
     let mut entries = Entries::new();
@@ -65,8 +66,11 @@ fn ends_line(sign: &[u8], rest: &[u8]) -> bool
 
 // What stands behind the `)`: `=`, and a value.
 fn word_behind(text: &[u8], width: Width) -> Option<Word>
-    ensures some { IfSome result (λ w. (name : Items ℕ) (z : Items ℤ) → said_behind width.bits name z (pieces_of text.now) ≡ Some (record { name = name; point = z; word = w.bits })) }
-    ensures none { IfNone result ((name : Items ℕ) (z : Items ℤ) → said_behind width.bits name z (pieces_of text.now) ≡ None) }
+    ensures some { IfSome result (λ w. (name : Items ℕ) (z : Items ℤ)
+        → said_behind width.bits name z (pieces_of text.now)
+        ≡ Some (record { name = name; point = z; word = w.bits })) }
+    ensures none { IfNone result ((name : Items ℕ) (z : Items ℤ)
+        → said_behind width.bits name z (pieces_of text.now) ≡ None) }
 {
     let (sign, rest) = first_piece(text);
     let (value, rest) = first_piece(rest);
@@ -79,8 +83,11 @@ fn word_behind(text: &[u8], width: Width) -> Option<Word>
 
 // What is said of a name by what stands behind the `(`.
 fn binding_behind<'a>(name: &'a [u8], text: &'a [u8], width: Width) -> Option<Binding<'a>>
-    ensures some { IfSome result (λ s. (z : Items ℤ) × Keeps s.entries.kept.items s.entries.far z × (said_of width.bits name.now (entries_in (pieces_of text.now)) ≡ Some (record { name = s.name.now; point = z; word = s.word.bits }))) }
-    ensures none { IfNone result (said_of width.bits name.now (entries_in (pieces_of text.now)) ≡ None) }
+    ensures some { IfSome result (λ s. (z : Items ℤ) × Keeps s.entries.kept.items s.entries.far z
+        × (said_of width.bits name.now (entries_in (pieces_of text.now))
+        ≡ Some (record { name = s.name.now; point = z; word = s.word.bits }))) }
+    ensures none { IfNone result (said_of width.bits name.now (entries_in (pieces_of text.now))
+        ≡ None) }
 {
     let (entries, rest) = entries_in(text)?;
     let word = word_behind(rest, width)?;
@@ -93,8 +100,10 @@ fn binding_behind<'a>(name: &'a [u8], text: &'a [u8], width: Width) -> Option<Bi
 
 /// What a line says that is neither blank nor a comment.
 pub(crate) fn binding_in(line: &[u8], width: Width) -> Option<Binding<'_>>
-    ensures some { IfSome result (λ s. (z : Items ℤ) × Keeps s.entries.kept.items s.entries.far z × SaysOnly width.bits line.now s.name.now z s.word.bits) }
-    ensures none { IfNone result ((name : Items ℕ) (z : Items ℤ) (w : ℕ) → Says width.bits line.now name z w → ⊥) }
+    ensures some { IfSome result (λ s. (z : Items ℤ) × Keeps s.entries.kept.items s.entries.far z
+        × SaysOnly width.bits line.now s.name.now z s.word.bits) }
+    ensures none { IfNone result ((name : Items ℕ) (z : Items ℤ) (w : ℕ)
+        → Says width.bits line.now name z w → ⊥) }
 {
     let (name, rest) = first_piece(uncommented(line));
     let (sign, rest) = first_piece(rest);

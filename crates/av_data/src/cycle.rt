@@ -16,9 +16,11 @@ pub fn write_cycle<K: Sink>(
     sink: &mut K,
 ) -> Result<(), WriteFault>
     requires { length ports.now ≡ length values.now }
-    ensures added { OnOk result (Adds (K.state sink.old).held (K.state sink.new).held (cycle_line cycle ports.now values.now)) }
+    ensures added { OnOk result (Adds
+        (K.state sink.old).held (K.state sink.new).held (cycle_line cycle ports.now values.now)) }
     ensures fault { IsErr result → HasRisen (K.state sink.old).faults (K.state sink.new).faults }
-    ensures front { OnErr result (AddsPrefix (K.state sink.old).held (K.state sink.new).held (cycle_line cycle ports.now values.now)) }
+    ensures front { OnErr result (AddsPrefix
+        (K.state sink.old).held (K.state sink.new).held (cycle_line cycle ports.now values.now)) }
     ensures later { (K.state sink.old).faults ≤ (K.state sink.new).faults }
 {
     let mut page = Page::new();
@@ -30,7 +32,8 @@ pub fn write_cycle<K: Sink>(
 
 fn write_values<K: Sink>(page: &mut Page, sink: &mut K, ports: &[Port], values: &[u64])
     requires { length ports.now ≡ length values.now }
-    ensures { Puts (K.state sink.old) (K.state sink.new) page.old page.new (values_text ports.now values.now) }
+    ensures { Puts (K.state sink.old)
+        (K.state sink.new) page.old page.new (values_text ports.now values.now) }
 {
     for (i, port) in ports.iter().enumerate() {
         write_value(page, sink, port, values[i]);
@@ -38,7 +41,8 @@ fn write_values<K: Sink>(page: &mut Page, sink: &mut K, ports: &[Port], values: 
 }
 
 fn write_value<K: Sink>(page: &mut Page, sink: &mut K, port: &Port, value: u64)
-    ensures { Puts (K.state sink.old) (K.state sink.new) page.old page.new (value_text port.now value) }
+    ensures { Puts (K.state sink.old)
+        (K.state sink.new) page.old page.new (value_text port.now value) }
 {
     page.put(sink, " ");
     page.put(sink, port.name.as_str());

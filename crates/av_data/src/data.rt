@@ -91,13 +91,17 @@ pub fn read_data(
     requires flat { IsKept (view_system flat.now) ⊎ IsChained (view_system flat.now) }
 
     // What is read is spelled so, and what is spelled so is read, unless memory runs out.
-    ensures found { IfOk result (λ inputs. SpellsInputs (view_system flat.now) bytes.now (words_of inputs)) }
-    ensures only { (x : Assignment) → SpellsInputs (view_system flat.now) bytes.now x → GivesInputs result x }
+    ensures found { IfOk result (λ inputs.
+        SpellsInputs (view_system flat.now) bytes.now (words_of inputs)) }
+    ensures only { (x : Assignment)
+        → SpellsInputs (view_system flat.now) bytes.now x → GivesInputs result x }
     ensures inputs { IfOk result (λ inputs. AreInputs (view_system flat.now) (words_of inputs)) }
 
     // Each fault is that of the lines, and where the lines have a fault it is answered.
-    ensures fault { (f : Fault) → result ≡ Err f → (f ≡ OutOfMemory) ⊎ IsInputFault (view_system flat.now) first_line bytes.now f }
-    ensures refused { (f : Fault) → IsInputFault (view_system flat.now) first_line bytes.now f → RefusesInputs result f }
+    ensures fault { (f : Fault) → result ≡ Err f
+        → (f ≡ OutOfMemory) ⊎ IsInputFault (view_system flat.now) first_line bytes.now f }
+    ensures refused { (f : Fault) → IsInputFault (view_system flat.now) first_line bytes.now f
+        → RefusesInputs result f }
 {
     read(alloc, bytes, first_line, flat)
 }

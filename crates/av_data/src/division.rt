@@ -36,7 +36,8 @@ pub fn divide(bytes: &[u8]) -> Option<Division<'_>>
     requires { length bytes.now < 4294967294 }
     ensures some { IfSome result (λ d. IsDivided bytes.now d.text.now d.rest.now d.first_line) }
     ensures none { IfNone result (HasNoMark bytes.now) }
-    ensures within { IfSome result (λ d. (length d.text.now ≤ length bytes.now) × (d.first_line + length d.rest.now ≤ length bytes.now + 1)) }
+    ensures within { IfSome result (λ d. (length d.text.now ≤ length bytes.now)
+        × (d.first_line + length d.rest.now ≤ length bytes.now + 1)) }
 {
     let mut lines = 0u32;
     let mut at = 0;

@@ -33,7 +33,9 @@ impl Entries {
 
     /// One entry more.
     pub(crate) fn add(&mut self, entry: &Whole<'_>)
-        ensures { (z : Items ℤ) → Keeps self.old.kept.items self.old.far z → Keeps self.new.kept.items self.new.far (z ++ signed_value entry.now.negative entry.now.digits.now ∷ []) }
+        ensures { (z : Items ℤ) → Keeps self.old.kept.items self.old.far z
+            → Keeps self.new.kept.items self.new.far (z
+            ++ signed_value entry.now.negative entry.now.digits.now ∷ []) }
     {
         match entry.coordinate() {
             Some(number) if self.kept.len() < MOST_INDICES => self.kept.push(number),
@@ -47,8 +49,10 @@ impl Entries {
         requires few { domain.now.dim ≤ 4 }
         requires small { (z : Items ℤ) → Has domain.now z → AtMost 4095 z }
         requires kept { (z : Items ℤ) × Keeps self.now.kept.items self.now.far z }
-        ensures some { IfSome result (λ z. (y : Items ℤ) → Keeps self.now.kept.items self.now.far y → (y ≡ z) × IsTrue (has domain.now z)) }
-        ensures none { IfNone result ((y : Items ℤ) → Keeps self.now.kept.items self.now.far y → has domain.now y ≡ false) }
+        ensures some { IfSome result (λ z. (y : Items ℤ)
+            → Keeps self.now.kept.items self.now.far y → (y ≡ z) × IsTrue (has domain.now z)) }
+        ensures none { IfNone result ((y : Items ℤ)
+            → Keeps self.now.kept.items self.now.far y → has domain.now y ≡ false) }
     {
         if self.far || self.kept.len() != domain.dim as usize {
             return None;

@@ -33,8 +33,10 @@ pub(crate) fn cycles_digits(text: &[u8]) -> Option<&[u8]>
 }
 
 fn checked<'a>(word: &[u8], setting: Setting<'a>, extra: &[u8]) -> Option<Setting<'a>>
-    ensures some { IfSome result (λ s. setting_by word.now setting.entry.cycle.now setting.entry.port.now setting.entry.value.now extra.now ≡ Some (view_setting s)) }
-    ensures none { IfNone result (setting_by word.now setting.entry.cycle.now setting.entry.port.now setting.entry.value.now extra.now ≡ None) }
+    ensures some { IfSome result (λ s. setting_by word.now setting.entry.cycle.now
+        setting.entry.port.now setting.entry.value.now extra.now ≡ Some (view_setting s)) }
+    ensures none { IfNone result (setting_by word.now
+        setting.entry.cycle.now setting.entry.port.now setting.entry.value.now extra.now ≡ None) }
 {
     if word == b"at".as_slice()
         && are_digits(setting.cycle)

@@ -38,7 +38,8 @@ impl Model for Inputs {
 impl Inputs {
     /// The word of a point of the input with this name, or `None` where the map has no such point. It takes no memory.
     pub fn word(&self, variable: &Name, point: &Point) -> Option<Word>
-        ensures some { IfSome result (λ word. words_of self.now variable.now point.now ≡ Some word.bits) }
+        ensures some { IfSome result (λ word.
+            words_of self.now variable.now point.now ≡ Some word.bits) }
         ensures none { IfNone result (words_of self.now variable.now point.now ≡ None) }
     {
         let place = place_of(self.names.as_slice(), variable)?;

@@ -31,8 +31,11 @@ fn behind(extent: &Bounds, z: &[i64], index: usize) -> Bounds
     requires below { get_or z.now index (pos 0) <ℤ get_or extent.now.high index (pos 0) }
     ensures low { AtMost 4095 result.low }
     ensures high { AtMost 4095 result.high }
-    ensures between { (y : Items ℤ) → length y ≡ length z.now → IsBetween extent.now.low extent.now.high y → DiffersAt index z.now y → IsBetween result.low result.high y }
-    ensures behind { (y : Items ℤ) → length y ≡ length z.now → IsBetween result.low result.high y → DiffersAt index z.now y }
+    ensures between { (y : Items ℤ) → length y ≡ length z.now
+        → IsBetween extent.now.low extent.now.high y
+        → DiffersAt index z.now y → IsBetween result.low result.high y }
+    ensures behind { (y : Items ℤ) → length y ≡ length z.now
+        → IsBetween result.low result.high y → DiffersAt index z.now y }
 {
     let mut low = extent.low;
     let mut high = extent.high;
@@ -78,9 +81,12 @@ fn missing_point(
     requires few { domain.now.dim ≤ 4 }
     requires rows { All IsWithinLimits domain.now.rows }
     requires bounded { IsBounded domain.now }
-    ensures missing { IfOk result (λ o. IfSome o (λ z. Has domain.now z × (word_among words.now place z ≡ None))) }
-    ensures least { IfOk result (λ o. IfSome o (λ z. (y : Items ℤ) → Has domain.now y → IsBefore y z → IsSome (word_among words.now place y))) }
-    ensures none { IfOk result (λ o. IfNone o ((y : Items ℤ) → Has domain.now y → IsSome (word_among words.now place y))) }
+    ensures missing { IfOk result (λ o. IfSome o (λ z. Has domain.now z
+        × (word_among words.now place z ≡ None))) }
+    ensures least { IfOk result (λ o. IfSome o (λ z. (y : Items ℤ)
+        → Has domain.now y → IsBefore y z → IsSome (word_among words.now place y))) }
+    ensures none { IfOk result (λ o.
+        IfNone o ((y : Items ℤ) → Has domain.now y → IsSome (word_among words.now place y))) }
 {
     let Some(extent) = box_of(alloc, domain)? else {
         return Ok(None);
@@ -103,8 +109,10 @@ pub(crate) fn first_missing(
 ) -> Result<Option<(usize, Point)>, Memory>
     requires readable { IsReadable (view_system flat.now) }
     ensures within { IfOk result (λ o. IfSome o (λ found. found.0 < length flat.now.vars)) }
-    ensures missing { IfOk result (λ o. IfSome o (λ found. IsMissingAt (view_system flat.now) words.now found.0 found.1)) }
-    ensures none { IfOk result (λ o. IfNone o (AreWhole (view_system flat.now) words.now (length flat.now.vars))) }
+    ensures missing { IfOk result (λ o.
+        IfSome o (λ found. IsMissingAt (view_system flat.now) words.now found.0 found.1)) }
+    ensures none { IfOk result (λ o.
+        IfNone o (AreWhole (view_system flat.now) words.now (length flat.now.vars))) }
 {
     let vars = flat.vars.as_slice();
     for place in 0..vars.len() {

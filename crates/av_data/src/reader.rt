@@ -51,8 +51,10 @@ fn give(
     line: u32,
     setting: &Setting,
 ) -> Result<(), DataFault>
-    ensures ok { OnOk result (given_at inputs.now cycles line values.old (view_setting setting.now) (place_of inputs.now setting.now.port.now) ≡ Ok values.new) }
-    ensures err { IfErr result (λ fault. FaultIs fault (given_at inputs.now cycles line values.old (view_setting setting.now) (place_of inputs.now setting.now.port.now))) }
+    ensures ok { OnOk result (given_at inputs.now cycles line values.old
+        (view_setting setting.now) (place_of inputs.now setting.now.port.now) ≡ Ok values.new) }
+    ensures err { IfErr result (λ fault. FaultIs fault (given_at inputs.now cycles line values.old
+        (view_setting setting.now) (place_of inputs.now setting.now.port.now))) }
 {
     let Some(port) = inputs.place(setting.port) else {
         return Err(DataFault::DataUnknown(line));
@@ -80,7 +82,8 @@ fn value_at(
     text: &[u8],
 ) -> Result<(), DataFault>
     ensures ok { OnOk result (value_at inputs.now cycles line values.old text.now ≡ Ok values.new) }
-    ensures err { IfErr result (λ fault. FaultIs fault (value_at inputs.now cycles line values.old text.now)) }
+    ensures err { IfErr result (λ fault.
+        FaultIs fault (value_at inputs.now cycles line values.old text.now)) }
 {
     let text = uncommented(text);
     if is_empty(text) {

@@ -14,9 +14,11 @@ pub fn write_result<K: Sink>(
     word: Word,
     sink: &mut K,
 ) -> Result<(), WriteFault>
-    ensures added { OnOk result (Adds (K.state sink.old).held (K.state sink.new).held (result_line name.now point.now word.bits)) }
+    ensures added { OnOk result (Adds (K.state sink.old).held
+        (K.state sink.new).held (result_line name.now point.now word.bits)) }
     ensures fault { IsErr result → HasRisen (K.state sink.old).faults (K.state sink.new).faults }
-    ensures front { OnErr result (AddsPrefix (K.state sink.old).held (K.state sink.new).held (result_line name.now point.now word.bits)) }
+    ensures front { OnErr result (AddsPrefix (K.state sink.old).held
+        (K.state sink.new).held (result_line name.now point.now word.bits)) }
     ensures later { (K.state sink.old).faults ≤ (K.state sink.new).faults }
 {
     let mut page = Page::new();
@@ -25,7 +27,8 @@ pub fn write_result<K: Sink>(
 }
 
 fn write_line<K: Sink>(page: &mut Page, sink: &mut K, name: &str, point: &Point, word: Word)
-    ensures { Puts (K.state sink.old) (K.state sink.new) page.old page.new (result_line name.now point.now word.bits) }
+    ensures { Puts (K.state sink.old)
+        (K.state sink.new) page.old page.new (result_line name.now point.now word.bits) }
 {
     page.put(sink, name);
     page.put(sink, " ");

@@ -16,9 +16,11 @@ use av_vtext::write_point;
 /// takes no memory.
 pub fn write_schedule<K: Sink>(timed: &Timed, sink: &mut K) -> Result<(), WriteFault>
     requires legal { IsLegal timed.now }
-    ensures added { OnOk result (Adds (K.state sink.old).held (K.state sink.new).held (schedule_text timed.now)) }
+    ensures added { OnOk result
+        (Adds (K.state sink.old).held (K.state sink.new).held (schedule_text timed.now)) }
     ensures fault { IsErr result → HasRisen (K.state sink.old).faults (K.state sink.new).faults }
-    ensures front { OnErr result (AddsPrefix (K.state sink.old).held (K.state sink.new).held (schedule_text timed.now)) }
+    ensures front { OnErr result
+        (AddsPrefix (K.state sink.old).held (K.state sink.new).held (schedule_text timed.now)) }
     ensures later { (K.state sink.old).faults ≤ (K.state sink.new).faults }
 {
     let mut page = Page::new();
@@ -34,7 +36,8 @@ pub fn write_schedule<K: Sink>(timed: &Timed, sink: &mut K) -> Result<(), WriteF
 // The variables that are nodes, each with its time.
 fn write_times<K: Sink>(page: &mut Page, sink: &mut K, vars: &[Var], times: &[Time])
     requires { length times.now ≡ length (filter is_node (map view_variable vars.now)) }
-    ensures { Puts (K.state sink.old) (K.state sink.new) page.old page.new (time_lines (filter is_node (map view_variable vars.now)) times.now) }
+    ensures { Puts (K.state sink.old) (K.state sink.new) page.old page.new
+        (time_lines (filter is_node (map view_variable vars.now)) times.now) }
 {
     let mut next = 0;
     for var in vars {
@@ -46,7 +49,8 @@ fn write_times<K: Sink>(page: &mut Page, sink: &mut K, vars: &[Var], times: &[Ti
 }
 
 fn write_time<K: Sink>(page: &mut Page, sink: &mut K, var: &Var, time: &Time)
-    ensures { Puts (K.state sink.old) (K.state sink.new) page.old page.new (time_line (view_variable var.now) time.now) }
+    ensures { Puts (K.state sink.old)
+        (K.state sink.new) page.old page.new (time_line (view_variable var.now) time.now) }
 {
     page.put(sink, var.name.as_str());
     page.put(sink, " ");

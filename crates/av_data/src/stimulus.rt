@@ -46,8 +46,10 @@ pub fn read_stimulus(
     ensures only { (s : Lines) → SpellsStimulus of.now.inputs bytes.now s → GivesStimulus result s }
 
     // Each fault is that of the first faulty line, and where a line is faulty its fault is answered.
-    ensures fault { (f : Fault) → result ≡ Err f → (f ≡ OutOfMemory) ⊎ IsStimulusFault of.now.inputs first_line bytes.now f }
-    ensures refused { (f : Fault) → IsStimulusFault of.now.inputs first_line bytes.now f → GivesFault result f }
+    ensures fault { (f : Fault) → result ≡ Err f
+        → (f ≡ OutOfMemory) ⊎ IsStimulusFault of.now.inputs first_line bytes.now f }
+    ensures refused { (f : Fault) → IsStimulusFault of.now.inputs first_line bytes.now f
+        → GivesFault result f }
 {
     // So few ports that 32 bits number them.
     let _most = of.inputs.len();

@@ -18,9 +18,11 @@ use av_vtext::{write_entry, write_point};
 /// `at Y (0) o0 0`, and the totals of cycles, cells, registers of delay lines and links. It takes no memory.
 pub fn write_table<K: Sink>(timed: &Timed, cells: &Cells, sink: &mut K) -> Result<(), WriteFault>
     requires array { IsArrayOf timed.now cells.now }
-    ensures added { OnOk result (Adds (K.state sink.old).held (K.state sink.new).held (table_text timed.now cells.now)) }
+    ensures added { OnOk result
+        (Adds (K.state sink.old).held (K.state sink.new).held (table_text timed.now cells.now)) }
     ensures fault { IsErr result → HasRisen (K.state sink.old).faults (K.state sink.new).faults }
-    ensures front { OnErr result (AddsPrefix (K.state sink.old).held (K.state sink.new).held (table_text timed.now cells.now)) }
+    ensures front { OnErr result (AddsPrefix
+        (K.state sink.old).held (K.state sink.new).held (table_text timed.now cells.now)) }
     ensures later { (K.state sink.old).faults ≤ (K.state sink.new).faults }
 {
     let mut page = Page::new();
@@ -31,7 +33,8 @@ pub fn write_table<K: Sink>(timed: &Timed, cells: &Cells, sink: &mut K) -> Resul
 // The whole text.
 fn write_lines<K: Sink>(page: &mut Page, sink: &mut K, timed: &Timed, cells: &Cells)
     requires array { IsArrayOf timed.now cells.now }
-    ensures { Puts (K.state sink.old) (K.state sink.new) page.old page.new (table_text timed.now cells.now) }
+    ensures { Puts (K.state sink.old)
+        (K.state sink.new) page.old page.new (table_text timed.now cells.now) }
 {
     write_cells(page, sink, &timed.flat, cells.cells.as_slice());
     write_entries(page, sink, "in", cells.listing.ins.as_slice());
@@ -61,7 +64,8 @@ fn node_at(flat: &Flat, node: u32) -> &Var
 // A line for each cell.
 fn write_cells<K: Sink>(page: &mut Page, sink: &mut K, flat: &Flat, cells: &[Cell])
     requires { All (λ c. c.node < length (nodes (view_system flat.now))) cells.now }
-    ensures { Puts (K.state sink.old) (K.state sink.new) page.old page.new (cell_lines (nodes (view_system flat.now)) 0 cells.now) }
+    ensures { Puts (K.state sink.old) (K.state sink.new) page.old page.new
+        (cell_lines (nodes (view_system flat.now)) 0 cells.now) }
 {
     for k in 0..cells.len() {
         write_cell(page, sink, node_at(flat, cells[k].node), k, &cells[k]);
@@ -69,7 +73,8 @@ fn write_cells<K: Sink>(page: &mut Page, sink: &mut K, flat: &Flat, cells: &[Cel
 }
 
 fn write_cell<K: Sink>(page: &mut Page, sink: &mut K, var: &Var, number: usize, cell: &Cell)
-    ensures { Puts (K.state sink.old) (K.state sink.new) page.old page.new (named_cell_line var.now.name number cell.now) }
+    ensures { Puts (K.state sink.old)
+        (K.state sink.new) page.old page.new (named_cell_line var.now.name number cell.now) }
 {
     page.put(sink, "cell ");
     page.put_number(sink, number);
@@ -81,7 +86,8 @@ fn write_cell<K: Sink>(page: &mut Page, sink: &mut K, var: &Var, number: usize, 
 }
 
 fn write_entries<K: Sink>(page: &mut Page, sink: &mut K, word: &str, entries: &[Entry])
-    ensures { Puts (K.state sink.old) (K.state sink.new) page.old page.new (flat_map (listed_line word.now) entries.now) }
+    ensures { Puts (K.state sink.old)
+        (K.state sink.new) page.old page.new (flat_map (listed_line word.now) entries.now) }
 {
     for entry in entries {
         write_listed(page, sink, word, entry);
@@ -89,7 +95,8 @@ fn write_entries<K: Sink>(page: &mut Page, sink: &mut K, word: &str, entries: &[
 }
 
 fn write_listed<K: Sink>(page: &mut Page, sink: &mut K, word: &str, entry: &Entry)
-    ensures { Puts (K.state sink.old) (K.state sink.new) page.old page.new (listed_line word.now entry.now) }
+    ensures { Puts (K.state sink.old)
+        (K.state sink.new) page.old page.new (listed_line word.now entry.now) }
 {
     write_entry(page, sink, word, entry);
     page.put(sink, "\n");
@@ -107,7 +114,8 @@ pub fn write_totals<K: Sink>(page: &mut Page, sink: &mut K, cells: &Cells)
 }
 
 fn write_total<K: Sink>(page: &mut Page, sink: &mut K, name: &str, number: usize)
-    ensures { Puts (K.state sink.old) (K.state sink.new) page.old page.new (name.now ++ decimal number) }
+    ensures { Puts (K.state sink.old)
+        (K.state sink.new) page.old page.new (name.now ++ decimal number) }
 {
     page.put(sink, name);
     page.put_number(sink, number);

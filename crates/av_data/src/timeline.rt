@@ -39,7 +39,8 @@ impl Timeline {
     /// Puts a value in its place, if its port has none in its cycle. Whether it had none.
     pub fn give(&mut self, given: Given) -> Result<bool, Memory>
         ensures is_new { IfOk result (λ is_new. is_new ≡ not (is_given self.old given)) }
-        ensures all { OnOk result (self.new ≡ (if is_given self.old given then self.old else placed given self.old)) }
+        ensures all { OnOk result (self.new
+            ≡ (if is_given self.old given then self.old else placed given self.old)) }
     {
         let key = (given.cycle, given.port);
         if self.found.contains_key(&key) {

@@ -46,7 +46,8 @@ impl WordMap {
 
     /// The word of a point, where it has one.
     pub(crate) fn word(&self, place: usize, point: &Point) -> Option<Word>
-        ensures some { IfSome result (λ word. word_among self.now place point.now ≡ Some word.bits) }
+        ensures some { IfSome result (λ word.
+            word_among self.now place point.now ≡ Some word.bits) }
         ensures none { IfNone result (word_among self.now place point.now ≡ None) }
     {
         let key = (place, entries_of(point));
@@ -58,8 +59,11 @@ impl WordMap {
 
     /// Gives a point its word, where it has none. Whether it had none.
     pub(crate) fn give(&mut self, place: usize, point: &Point, word: Word) -> Result<bool, Memory>
-        ensures is_new { IfOk result (λ is_new. is_new ≡ not (is_some (word_among self.old place point.now))) }
-        ensures given { IfOk result (λ is_new. (p : ℕ) (z : Entries) → word_among self.new p z ≡ (if is_new && is_at place point.now p z then Some word.bits else word_among self.old p z)) }
+        ensures is_new { IfOk result (λ is_new.
+            is_new ≡ not (is_some (word_among self.old place point.now))) }
+        ensures given { IfOk result (λ is_new. (p : ℕ) (z : Entries)
+            → word_among self.new p z ≡ (if is_new && is_at place point.now p z
+            then Some word.bits else word_among self.old p z)) }
     {
         let key = (place, entries_of(point));
         if self.words.contains_key(&key) {

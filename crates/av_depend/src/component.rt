@@ -14,7 +14,8 @@ fn are_together(rows: &[List<bool>], one: u32, other: u32) -> bool
     requires square { IsSquare (length rows.now) rows.now }
     requires one { one < length rows.now }
     requires other { other < length rows.now }
-    ensures { IsTrue result ↔ (IsTrue (leads rows.now one other) × IsTrue (leads rows.now other one)) }
+    ensures { IsTrue result
+        ↔ (IsTrue (leads rows.now one other) × IsTrue (leads rows.now other one)) }
 {
     let there = rows[one as usize].as_slice()[other as usize];
     let back = rows[other as usize].as_slice()[one as usize];

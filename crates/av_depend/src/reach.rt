@@ -13,8 +13,10 @@ use std::alloc::Global;
 fn leads_out(edge: &Edge, marks: &[bool]) -> bool
     requires consumer { edge.now.consumer < length marks.now }
     requires producer { edge.now.producer < length marks.now }
-    ensures yes { IsTrue result → IsTrue (slice_index_or marks.now edge.now.consumer false) × (slice_index_or marks.now edge.now.producer false ≡ false) }
-    ensures no { result ≡ false → IsTrue (slice_index_or marks.now edge.now.consumer false) → IsTrue (slice_index_or marks.now edge.now.producer false) }
+    ensures yes { IsTrue result → IsTrue (slice_index_or marks.now edge.now.consumer false)
+        × (slice_index_or marks.now edge.now.producer false ≡ false) }
+    ensures no { result ≡ false → IsTrue (slice_index_or marks.now edge.now.consumer false)
+        → IsTrue (slice_index_or marks.now edge.now.producer false) }
 {
     if marks[edge.producer as usize] {
         return false;

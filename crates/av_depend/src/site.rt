@@ -115,7 +115,8 @@ fn add_site(
     edges: &mut List<Edge>,
 ) -> Result<(), Memory>
     requires reading { IsReadingSet reading.now }
-    ensures { OnOk result (HasAdded (view_system flat.now) (site_at node place map.now reading.now.set ∷ []) edges.old edges.new) }
+    ensures { OnOk result (HasAdded (view_system flat.now)
+        (site_at node place map.now reading.now.set ∷ []) edges.old edges.new) }
 {
     if reading.points.as_slice().is_empty() {
         return Ok(());
@@ -144,7 +145,8 @@ fn add_choices(
 ) -> Result<(), Memory>
     requires reading { IsReadingSet reading.now }
     requires dims { All (λ c. c.set.dim ≡ reading.now.set.dim) choices.now }
-    ensures { OnOk result (HasAdded (view_system flat.now) (map (site_of node place reading.now.set) choices.now) edges.old edges.new) }
+    ensures { OnOk result (HasAdded (view_system flat.now)
+        (map (site_of node place reading.now.set) choices.now) edges.old edges.new) }
 {
     for choice in choices {
         let own = narrowed(alloc, reading, &choice.set)?;
@@ -164,7 +166,8 @@ pub(crate) fn add_tree(
 ) -> Result<(), Memory>
     requires reading { IsReadingSet reading.now }
     requires fits { Fits (signatures (view_system flat.now)) reading.now.set.dim (view tree.now) }
-    ensures { OnOk result (HasAdded (view_system flat.now) (sites_in node reading.now.set (view tree.now)) edges.old edges.new) }
+    ensures { OnOk result (HasAdded (view_system flat.now)
+        (sites_in node reading.now.set (view tree.now)) edges.old edges.new) }
 {
     match tree {
         Tree::Ref { var, map } => add_site(alloc, flat, node, *var, map, reading, edges),

@@ -57,8 +57,8 @@ fn index_bounds(alloc: Global, rows: &[Form], dim: usize) -> Result<Bounds, Elim
     requires few { length rows.now ≤ 20 }
     requires rows { All IsWithinLimits rows.now }
     ensures found { IfOk result (AreBounds (record { dim = dim; rows = rows.now })) }
-    ensures inside { IfOk result (λ bounds. (z : Items ℤ) → Has (record { dim = dim; rows = rows.now }) z →
-        IsBetween bounds.low bounds.high z) }
+    ensures inside { IfOk result (λ bounds. (z : Items ℤ)
+        → Has (record { dim = dim; rows = rows.now }) z → IsBetween bounds.low bounds.high z) }
     ensures refused { IfErr result (IsCause (record { dim = dim; rows = rows.now })) }
 {
     let mut low = [0i128; 4];
@@ -98,8 +98,10 @@ fn index_bounds(alloc: Global, rows: &[Form], dim: usize) -> Result<Bounds, Elim
 pub fn bounds(alloc: Global, poly: &Poly) -> Result<Bounds, Elim>
     requires dim { poly.now.dim ≤ 4 }
     requires rows { All IsWithinLimits poly.now.rows }
-    ensures found { IfOk result (λ bounds. (length poly.now.rows ≤ 20) × AreBounds poly.now bounds) }
-    ensures inside { IfOk result (λ bounds. (z : Items ℤ) → Has poly.now z → IsBetween bounds.low bounds.high z) }
+    ensures found { IfOk result (λ bounds. (length poly.now.rows ≤ 20)
+        × AreBounds poly.now bounds) }
+    ensures inside { IfOk result (λ bounds. (z : Items ℤ)
+        → Has poly.now z → IsBetween bounds.low bounds.high z) }
     ensures refused { IfErr result (IsCause poly.now) }
 {
     let rows = poly.rows.as_slice();

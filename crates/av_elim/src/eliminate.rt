@@ -32,7 +32,8 @@ pub(crate) fn combined_number(low: i64, high: i64, below: i64, above: i64) -> i1
     requires above { unsigned_abs above ≤ 2 ^ 53 }
     ensures value { result ≡ low *ℤ above +ℤ neg_ℤ high *ℤ below }
     ensures small { unsigned_abs result ≤ 2 ^ 97 }
-    ensures coefficient { unsigned_abs below ≤ 2 ^ 43 → unsigned_abs above ≤ 2 ^ 43 → unsigned_abs result ≤ 2 ^ 87 }
+    ensures coefficient { unsigned_abs below ≤ 2 ^ 43
+        → unsigned_abs above ≤ 2 ^ 43 → unsigned_abs result ≤ 2 ^ 87 }
 {
     let left = product(low, above);
     let right = product(high, below);
@@ -95,7 +96,8 @@ fn add_pairs(out: &mut List<Form>, below: &Form, rows: &[Form], other: usize) ->
     requires other { other < 4 }
     requires below { Small (2 ^ 21) (line below.now) }
     requires rows { All (λ r. Small (2 ^ 21) (line r)) rows.now }
-    ensures { OnOk result (StandsFor (homogeneous out.old ++ pairs_of (suc other) (line below.now) (homogeneous rows.now)) (homogeneous out.new)) }
+    ensures { OnOk result (StandsFor (homogeneous out.old
+        ++ pairs_of (suc other) (line below.now) (homogeneous rows.now)) (homogeneous out.new)) }
 {
     for above in rows {
         if above.coef[other] < 0 {
@@ -109,7 +111,8 @@ fn add_pairs(out: &mut List<Form>, below: &Form, rows: &[Form], other: usize) ->
 pub(crate) fn eliminate(alloc: Global, rows: &[Form], other: usize) -> Result<List<Form>, Memory>
     requires other { other < 4 }
     requires rows { All (λ r. Small (2 ^ 21) (line r)) rows.now }
-    ensures { IfOk result (λ out. StandsFor (eliminated (suc other) (homogeneous rows.now)) (homogeneous out)) }
+    ensures { IfOk result (λ out.
+        StandsFor (eliminated (suc other) (homogeneous rows.now)) (homogeneous out)) }
 {
     let mut out = List::new(alloc);
     for row in rows {

@@ -38,7 +38,8 @@ fn nearest_of(numbers: [i128; 4]) -> [i128; 4]
 fn clipped(extent: &Bounds) -> Bounds
     ensures low { AtMost 4095 result.low }
     ensures high { AtMost 4095 result.high }
-    ensures between { (z : Items ℤ) → AtMost 4095 z → IsBetween extent.now.low extent.now.high z → IsBetween result.low result.high z }
+    ensures between { (z : Items ℤ) → AtMost 4095 z
+        → IsBetween extent.now.low extent.now.high z → IsBetween result.low result.high z }
 {
     Bounds {
         low: nearest_of(extent.low),
@@ -50,7 +51,8 @@ fn clipped(extent: &Bounds) -> Bounds
 fn widest() -> Bounds
     ensures low { AtMost 4095 result.low }
     ensures high { AtMost 4095 result.high }
-    ensures between { (z : Items ℤ) → length z ≤ 4 → AtMost 4095 z → IsBetween result.low result.high z }
+    ensures between { (z : Items ℤ) → length z ≤ 4
+        → AtMost 4095 z → IsBetween result.low result.high z }
 {
     Bounds {
         low: [-MOST, -MOST, -MOST, -MOST],
@@ -65,7 +67,8 @@ pub fn box_of(alloc: Global, domain: &Poly) -> Result<Option<Bounds>, Memory>
     requires small { (z : Items ℤ) → Has domain.now z → AtMost 4095 z }
     ensures low { IfOk result (λ o. IfSome o (λ extent. AtMost 4095 extent.low)) }
     ensures high { IfOk result (λ o. IfSome o (λ extent. AtMost 4095 extent.high)) }
-    ensures inside { IfOk result (λ o. IfSome o (λ extent. IsInside domain.now.dim extent domain.now)) }
+    ensures inside { IfOk result (λ o.
+        IfSome o (λ extent. IsInside domain.now.dim extent domain.now)) }
     ensures empty { IfOk result (λ o. IfNone o ((z : Items ℤ) → Has domain.now z → ⊥)) }
 {
     match bounds(alloc, &normalised_copy(alloc, domain)?) {

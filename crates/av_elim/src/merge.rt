@@ -28,7 +28,8 @@ fn reduced(row: &Form) -> Form
 // Lets a row take the place of the one that has equal coefficients, where its constant is less; false
 // where none has.
 fn replaced(rows: &mut List<Form>, row: &Form) -> bool
-    ensures yes { IsTrue result → StandsFor (homogeneous rows.old ++ line row.now ∷ []) (homogeneous rows.new) }
+    ensures yes { IsTrue result
+        → StandsFor (homogeneous rows.old ++ line row.now ∷ []) (homogeneous rows.new) }
     ensures no { result ≡ false → rows.new ≡ rows.old }
 {
     for place in 0..rows.as_slice().len() {
@@ -46,7 +47,8 @@ fn replaced(rows: &mut List<Form>, row: &Form) -> bool
 /// Adds a row to rows of which no two have equal coefficients.
 pub(crate) fn add(rows: &mut List<Form>, row: &Form) -> Result<(), Memory>
     requires { Small (2 ^ 43) (line row.now) }
-    ensures { OnOk result (StandsFor (homogeneous rows.old ++ line row.now ∷ []) (homogeneous rows.new)) }
+    ensures { OnOk result
+        (StandsFor (homogeneous rows.old ++ line row.now ∷ []) (homogeneous rows.new)) }
 {
     let row = reduced(row);
     if replaced(rows, &row) {

@@ -36,8 +36,10 @@ fn without_others(
     requires index { index < 4 }
     requires last { last < 4 }
     requires other { index ≢ last }
-    ensures shadow { IfOk result (λ out. Shadow (suc last) (suc index) (homogeneous rows.now) (homogeneous out)) }
-    ensures clear { IfOk result (λ out. (j : ℕ) → 0 < j → j ≤ last → j ≢ suc index → Clear j (homogeneous out)) }
+    ensures shadow { IfOk result (λ out.
+        Shadow (suc last) (suc index) (homogeneous rows.now) (homogeneous out)) }
+    ensures clear { IfOk result (λ out. (j : ℕ)
+        → 0 < j → j ≤ last → j ≢ suc index → Clear j (homogeneous out)) }
     ensures small { IfOk result (All (λ r. Small (2 ^ 43) (line r))) }
 {
     let mut out = gathered(alloc, rows)?;

@@ -91,7 +91,8 @@ fn pair_step(span: Span, below: &Form, above: &Form, other: usize, index: usize)
     requires index { index < 4 }
     requires below { Small (2 ^ 43) (line below.now) }
     requires above { Small (2 ^ 43) (line above.now) }
-    ensures { result ≡ stepped (factor (suc index) (combination (suc other) (line below.now) (line above.now)))
+    ensures { result ≡ stepped
+        (factor (suc index) (combination (suc other) (line below.now) (line above.now)))
         (factor 0 (combination (suc other) (line below.now) (line above.now))) span }
 {
     let low = below.coef[other];
@@ -124,7 +125,8 @@ fn scan_pairs(span: Span, below: &Form, rows: &[Form], other: usize, index: usiz
     requires index { index < 4 }
     requires below { Small (2 ^ 43) (line below.now) }
     requires rows { All (λ r. Small (2 ^ 43) (line r)) rows.now }
-    ensures { result ≡ scanned (suc index) (pairs_of (suc other) (line below.now) (homogeneous rows.now)) span }
+    ensures { result ≡ scanned
+        (suc index) (pairs_of (suc other) (line below.now) (homogeneous rows.now)) span }
 {
     let mut all = span;
     for above in rows {

@@ -24,12 +24,14 @@ ghost use Rattle.av_flat.specs.OneSolution.{AreInputs, HasOneSolution};
 
 /// A law on values: under the same words a tree has at most one word at a point.
 pub fn one_word()
-    ensures { (s : Scene) (t : Tree) (z : Point) (a b : ℕ) → HasValue s t z a → HasValue s t z b → a ≡ b }
+    ensures { (s : Scene) (t : Tree) (z : Point) (a b : ℕ)
+        → HasValue s t z a → HasValue s t z b → a ≡ b }
 {}
 
 /// A law on values: a tree has a word only at points where its count is 1.
 pub fn counted_word()
-    ensures { (s : Scene) (t : Tree) (z : Point) (w : ℕ) → HasValue s t z w → count s.variables t z ≡ 1 }
+    ensures { (s : Scene) (t : Tree) (z : Point) (w : ℕ)
+        → HasValue s t z w → count s.variables t z ≡ 1 }
 {}
 
 /// A law on sets: the points that counts go by are those that sets have.
@@ -39,7 +41,8 @@ pub fn points_of_sets()
 
 /// A law on pieces: at a point of its context a tree has as many words as it has pieces whose rows hold there.
 pub fn counted_pieces()
-    ensures { (vs : List Signature) (t : Tree) (z : Point) → length z ≤ 4 → Fits vs (length z) t → count vs t z ≡ holding z (parts vs [] t) }
+    ensures { (vs : List Signature) (t : Tree) (z : Point)
+        → length z ≤ 4 → Fits vs (length z) t → count vs t z ≡ holding z (parts vs [] t) }
 {}
 
 /// A law on pieces: how many there are, before any is dropped.
@@ -49,14 +52,16 @@ pub fn number_of_pieces()
 
 /// A law on pieces: where a tree has one word at a point of its context, it is that of the piece that holds there.
 pub fn words_of_pieces()
-    ensures { (s : Scene) (t : Tree) (z : Point) (w : ℕ) → length z ≤ 4 → Fits s.variables (length z) t → EachPart IsInPlace t → EachPart (λ u. is_pick u ≡ false) t →
-        HasValue s t z w ↔ ((count s.variables t z ≡ 1) × IsOfPart s z (parts s.variables [] t) w) }
+    ensures { (s : Scene) (t : Tree) (z : Point) (w : ℕ)
+        → length z ≤ 4 → Fits s.variables (length z) t
+        → EachPart IsInPlace t → EachPart (λ u. is_pick u ≡ false) t → HasValue s t z w
+        ↔ ((count s.variables t z ≡ 1) × IsOfPart s z (parts s.variables [] t) w) }
 {}
 
 /// A law on schedules: a proper chained system that has one has exactly one solution for all words of its inputs.
 pub fn one_solution()
-    ensures { (s : FlatSystem) (c : ℕ) (times : List TimeSeen) → IsChained s → IsProper s → IsSchedule s c times →
-        (x : Assignment) → AreInputs s x → HasOneSolution s x }
+    ensures { (s : FlatSystem) (c : ℕ) (times : List TimeSeen) → IsChained s → IsProper s
+        → IsSchedule s c times → (x : Assignment) → AreInputs s x → HasOneSolution s x }
 {}
 
 /// A law on chains: a kept system without reductions is chained.
@@ -66,11 +71,13 @@ pub fn unreduced_is_chained()
 
 /// A law on nodes: of a proper chained system they are the computed variables that have a point.
 pub fn nodes_have_points()
-    ensures { (s : FlatSystem) → IsChained s → IsProper s → (v : Variable) → Contains s.variables v →
-        IsTrue (is_node v) ↔ (IsTrue (is_computed v.kind) × ((z : Point) × IsTrue (has v.domain z))) }
+    ensures { (s : FlatSystem)
+        → IsChained s → IsProper s → (v : Variable) → Contains s.variables v → IsTrue (is_node v)
+        ↔ (IsTrue (is_computed v.kind) × ((z : Point) × IsTrue (has v.domain z))) }
 {}
 
 /// A law on helpers: without any, a timed system shows what its flat system shows.
 pub fn unhelped_systems_show_the_same()
-    ensures { (s : FlatSystem) → SameMeaning (shows_of s) (declares_of s) (helped_shows_of s []) (declares_of s) }
+    ensures { (s : FlatSystem)
+        → SameMeaning (shows_of s) (declares_of s) (helped_shows_of s []) (declares_of s) }
 {}

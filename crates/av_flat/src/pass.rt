@@ -34,14 +34,16 @@ pub trait Pass {
         requires takes { takes from.now }
         ensures gives { IfOk result (λ to. gives from.now to) }
         ensures refuses { IfErr result (λ fault. refuses from.now fault) }
-        ensures same { IfOk result (λ to. SameMeaning (Self.In.shows from.now) (Self.In.declares from.now) (Self.Out.shows to) (Self.Out.declares to)) };
+        ensures same { IfOk result (λ to. SameMeaning (Self.In.shows from.now)
+            (Self.In.declares from.now) (Self.Out.shows to) (Self.Out.declares to)) };
 
     /// What the one shows the other shows, and nothing else, and their declared points are the same.
-    ghost same: { (from : Self.In) (to : Self.Out) → takes from → gives from to →
-        SameMeaning (Self.In.shows from) (Self.In.declares from) (Self.Out.shows to) (Self.Out.declares to) };
+    ghost same: { (from : Self.In) (to : Self.Out) → takes from → gives from to → SameMeaning
+        (Self.In.shows from) (Self.In.declares from) (Self.Out.shows to) (Self.Out.declares to) };
 }
 
 /// A pass whose answers another pass takes.
 pub trait Feeds<B: Pass>: Pass<Out = B::In> {
-    ghost fits: { (from : Self.In) (to : B.In) → Self.takes from → Self.gives from to → B.takes to };
+    ghost fits: { (from : Self.In) (to : B.In)
+        → Self.takes from → Self.gives from to → B.takes to };
 }

@@ -29,7 +29,8 @@ impl<B: Pass, A: Feeds<B>> Pass for Then<A, B> {
 
     ghost gives = { λ from to. (middle : B.In) × A.gives from middle × B.gives middle to };
 
-    ghost refuses = { λ from fault. RefusesThen (λ f. A.refuses from f) (λ g. (middle : B.In) × A.gives from middle × B.refuses middle g) fault };
+    ghost refuses = { λ from fault. RefusesThen (λ f. A.refuses from f)
+        (λ g. (middle : B.In) × A.gives from middle × B.refuses middle g) fault };
 
     fn run(&self, alloc: Global, from: &A::In) -> Result<B::Out, ThenFault<A::Fault, B::Fault>> {
         match self.first.run(alloc, from) {
@@ -41,10 +42,13 @@ impl<B: Pass, A: Feeds<B>> Pass for Then<A, B> {
         }
     }
 
-    ghost same = { λ from to takes gives. same_meaning_trans (A.In.shows from) (A.In.declares from) (B.In.shows gives.0) (B.In.declares gives.0) (B.Out.shows to) (B.Out.declares to)
-        (A.same from gives.0 takes gives.1) (B.same gives.0 to (A.fits from gives.0 takes gives.1) gives.2) };
+    ghost same = { λ from to takes gives. same_meaning_trans
+        (A.In.shows from) (A.In.declares from) (B.In.shows gives.0) (B.In.declares gives.0)
+        (B.Out.shows to) (B.Out.declares to) (A.same from gives.0 takes gives.1)
+        (B.same gives.0 to (A.fits from gives.0 takes gives.1) gives.2) };
 }
 
 impl<C: Pass, B: Feeds<C>, A: Feeds<B>> Feeds<C> for Then<A, B> {
-    ghost fits = { λ from to takes gives. B.fits gives.0 to (A.fits from gives.0 takes gives.1) gives.2 };
+    ghost fits = { λ from to takes gives.
+        B.fits gives.0 to (A.fits from gives.0 takes gives.1) gives.2 };
 }

@@ -86,7 +86,8 @@ impl Tree {
         yes: Box<Tree>,
         no: Box<Tree>,
     ) -> Tree
-        ensures { view result ≡ flat.choice (view left.value) compare (view right.value) (view yes.value) (view no.value) }
+        ensures { view result ≡ flat.choice
+            (view left.value) compare (view right.value) (view yes.value) (view no.value) }
     {
         Tree::Choose {
             left,

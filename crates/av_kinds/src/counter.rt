@@ -74,7 +74,8 @@ impl Counter {
 
     // The counter with a number under an operator.
     fn combined(self, alloc: Global, symbol: Symbol, number: u32) -> Result<Operation, Memory>
-        ensures { IfOk result (λ operation. operation ≡ Operation.Binary (Operand.Name (counter_name self)) symbol (bound number)) }
+        ensures { IfOk result (λ operation.
+            operation ≡ Operation.Binary (Operand.Name (counter_name self)) symbol (bound number)) }
     {
         Ok(Operation::Binary {
             left: Operand::Name(self.name(alloc)?),
@@ -95,7 +96,10 @@ impl Counter {
         drives: &mut List<Drive>,
     ) -> Result<(), Memory>
         ensures wires { OnOk result (wires.new ≡ wires.old ++ port width name.now ∷ []) }
-        ensures drives { OnOk result (drives.new ≡ drives.old ++ record { target = name.now; operation = Operation.Binary (Operand.Name (counter_name self)) symbol (bound number) } ∷ []) }
+        ensures drives { OnOk result (drives.new ≡ drives.old ++ record {
+          target = name.now;
+          operation = Operation.Binary (Operand.Name (counter_name self)) symbol (bound number);
+        } ∷ []) }
     {
         let target = add_wire(alloc, name, width, wires)?;
         let operation = self.combined(alloc, symbol, number)?;
@@ -176,8 +180,10 @@ fn add_begun_again(
     wires: &mut List<Port>,
     drives: &mut List<Drive>,
 ) -> Result<(), Memory>
-    ensures wires { OnOk result (wires.new ≡ wires.old ++ port counter_width (codes "phase_next") ∷ []) }
-    ensures drives { OnOk result (drives.new ≡ drives.old ++ record { target = codes "phase_next"; operation = begun_again } ∷ []) }
+    ensures wires { OnOk result (wires.new
+        ≡ wires.old ++ port counter_width (codes "phase_next") ∷ []) }
+    ensures drives { OnOk result (drives.new
+        ≡ drives.old ++ record { target = codes "phase_next"; operation = begun_again } ∷ []) }
 {
     let target = add_wire(alloc, "phase_next", counter_width(), wires)?;
     let operation = begun_again(alloc)?;

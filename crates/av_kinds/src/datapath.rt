@@ -27,7 +27,8 @@ fn piece(
     datapath: &Datapath<'_>,
 ) -> Result<Operation, Memory>
     requires { HasTaps datapath.now }
-    ensures { IfOk result (AddsBuilt gates.old.items gates.new.items (datapath_built (wire_in names) width counter.now (length gates.old.items) (as_datapath datapath.now))) }
+    ensures { IfOk result (AddsBuilt gates.old.items gates.new.items (datapath_built
+        (wire_in names) width counter.now (length gates.old.items) (as_datapath datapath.now))) }
 {
     let taps = datapath.taps.as_slice();
     match datapath.tree {
@@ -61,7 +62,8 @@ fn in_mode(
     first: Operand,
     second: Operand,
 ) -> Result<Operation, Memory>
-    ensures { IfOk result (AddsBuilt gates.old.items gates.new.items (options_built (wire_in names) width counter.now (length gates.old.items) second (options_of first mode.now.guards))) }
+    ensures { IfOk result (AddsBuilt gates.old.items gates.new.items (options_built (wire_in names)
+        width counter.now (length gates.old.items) second (options_of first mode.now.guards))) }
 {
     let guards = mode.guards.as_slice();
     let mut root = Operation::Plain(second);
@@ -84,7 +86,9 @@ pub(crate) fn modes(
 ) -> Result<Operation, Memory>
     requires modes { AllByRecursion (λ t. HasTaps t.datapath) lane.now.modes }
     requires otherwise { HasTaps lane.now.otherwise }
-    ensures { IfOk result (AddsBuilt gates.old.items gates.new.items (modes_built (wire_in names) width counter.now (length gates.old.items) (as_datapath lane.now.otherwise) (map as_guarded lane.now.modes))) }
+    ensures { IfOk result (AddsBuilt gates.old.items gates.new.items
+        (modes_built (wire_in names) width counter.now (length gates.old.items)
+        (as_datapath lane.now.otherwise) (map as_guarded lane.now.modes))) }
 {
     let modes = lane.modes.as_slice();
     let mut root = piece(alloc, counter, width, names, gates, &lane.otherwise)?;

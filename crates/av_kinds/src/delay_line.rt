@@ -18,7 +18,8 @@ pub(crate) fn add_registers(
     length: u32,
     registers: &mut List<Port>,
 ) -> Result<(), Memory>
-    ensures { OnOk result (registers.new ≡ registers.old ++ map (λ d. port width (register_in names d)) (range_with_len 0 length)) }
+    ensures { OnOk result (registers.new
+        ≡ registers.old ++ map (λ d. port width (register_in names d)) (range_with_len 0 length)) }
 {
     for delay in 0..length {
         registers.push(Port {

@@ -25,8 +25,10 @@ fn on_wire(
     width: Width,
     operation: Operation,
 ) -> Result<Operand, Memory>
-    ensures gates { OnOk result (gates.new.items ≡ gates.old.items ++ record { width = width; operation = operation } ∷ []) }
-    ensures operand { IfOk result (λ operand. operand ≡ Operand.Name (wire_in names (length gates.old.items))) }
+    ensures gates { OnOk result (gates.new.items
+        ≡ gates.old.items ++ record { width = width; operation = operation } ∷ []) }
+    ensures operand { IfOk result (λ operand.
+        operand ≡ Operand.Name (wire_in names (length gates.old.items))) }
 {
     let number = gates.len();
     gates.push(LaneGate { width, operation })?;
@@ -41,7 +43,8 @@ pub(crate) fn named(
     width: Width,
     root: Operation,
 ) -> Result<Operand, Memory>
-    ensures { IfOk result (AddsNamed gates.new.items (named_by (wire_in names) 0 width gates.old.items root)) }
+    ensures { IfOk result
+        (AddsNamed gates.new.items (named_by (wire_in names) 0 width gates.old.items root)) }
 {
     match root {
         Operation::Plain(operand) => Ok(operand),
@@ -65,7 +68,8 @@ pub(crate) fn chosen(
     first: Operand,
     second: Operand,
 ) -> Result<Operation, Memory>
-    ensures { IfOk result (Adds gates.new.items (chosen_by (wire_in names) 0 gates.old.items test first second)) }
+    ensures { IfOk result
+        (Adds gates.new.items (chosen_by (wire_in names) 0 gates.old.items test first second)) }
 {
     let condition = on_wire(alloc, names, gates, bit(), test)?;
     Ok(Operation::Choose {

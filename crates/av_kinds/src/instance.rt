@@ -45,7 +45,8 @@ fn operand(
 
 // The source of a selection, or the last one where there is no such selection.
 fn source_at(site: &ProgramSite, k: usize) -> WordSource
-    ensures { result ≡ slice_index_or (map (λ (l : Selection). l.source) site.now.selections) k site.now.otherwise }
+    ensures { result ≡ slice_index_or
+        (map (λ (l : Selection). l.source) site.now.selections) k site.now.otherwise }
 {
     match site.selections.as_slice().get(k) {
         Some(selection) => selection.source,
@@ -63,7 +64,8 @@ fn add_words(
     operands: &mut List<Operand>,
 ) -> Result<(), Memory>
     requires { SiteThere (length program.now.lanes) site.now }
-    ensures { OnOk result (operands.new ≡ operands.old ++ words_for (operand_of (labels (program_of program.now)) width) count site.now.selections site.now.otherwise) }
+    ensures { OnOk result (operands.new ≡ operands.old ++ words_for (operand_of
+        (labels (program_of program.now)) width) count site.now.selections site.now.otherwise) }
 {
     for k in 0..count {
         let source = source_at(site, k as usize);
@@ -105,7 +107,8 @@ fn add_site(
     operands: &mut List<Operand>,
 ) -> Result<(), Memory>
     requires { SiteThere (length program.now.lanes) site.now }
-    ensures { OnOk result (operands.new ≡ operands.old ++ site_operands (labels (program_of program.now)) shape site.now) }
+    ensures { OnOk result (operands.new
+        ≡ operands.old ++ site_operands (labels (program_of program.now)) shape site.now) }
 {
     match shape.inlet {
         Inlet::Inputs | Inlet::Taps => {
@@ -133,7 +136,8 @@ fn add_sites(
 ) -> Result<(), Memory>
     requires suit { SuitSites shapes.now sites.now }
     requires there { AllByRecursion (SiteThere (length program.now.lanes)) sites.now }
-    ensures { OnOk result (operands.new ≡ operands.old ++ sites_operands (labels (program_of program.now)) shapes.now sites.now) }
+    ensures { OnOk result (operands.new
+        ≡ operands.old ++ sites_operands (labels (program_of program.now)) shapes.now sites.now) }
 {
     for k in 0..shapes.len() {
         add_site(alloc, program, shapes[k], &sites[k], operands)?;
@@ -174,7 +178,8 @@ fn add_mode(
 ) -> Result<(), Memory>
     requires suit { SuitsMode (mode_shape_of shape.now) (mode_of mode.now) }
     requires there { ModeThere (length program.now.lanes) (mode_of mode.now) }
-    ensures { OnOk result (operands.new ≡ operands.old ++ mode_operands (labels (program_of program.now)) is_tested (mode_shape_of shape.now) (mode_of mode.now)) }
+    ensures { OnOk result (operands.new ≡ operands.old ++ mode_operands
+        (labels (program_of program.now)) is_tested (mode_shape_of shape.now) (mode_of mode.now)) }
 {
     let sites = mode.work.sites.as_slice();
     add_sites(alloc, program, shape.sites.as_slice(), sites, operands)?;
@@ -194,7 +199,8 @@ fn add_lane(
 ) -> Result<(), Memory>
     requires suit { SuitsLane (lane_shape_of shape.now) (lane_of lane.now) }
     requires there { LaneThere (length program.now.lanes) (lane_of lane.now) }
-    ensures { OnOk result (operands.new ≡ operands.old ++ modes_operands (labels (program_of program.now)) (lane_shape_of shape.now).modes (lane_of lane.now).modes) }
+    ensures { OnOk result (operands.new ≡ operands.old ++ modes_operands (labels
+        (program_of program.now)) (lane_shape_of shape.now).modes (lane_of lane.now).modes) }
 {
     let shapes = shape.modes.as_slice();
     let modes = lane.modes.as_slice();
@@ -216,7 +222,8 @@ fn add_lanes(
 ) -> Result<(), Memory>
     requires suit { SuitLanes (map lane_shape_of shape.now) (map lane_of lanes.now) }
     requires there { AllByRecursion (LaneThere (length program.now.lanes)) (map lane_of lanes.now) }
-    ensures { OnOk result (operands.new ≡ operands.old ++ lanes_operands (labels (program_of program.now)) (map lane_shape_of shape.now) (map lane_of lanes.now)) }
+    ensures { OnOk result (operands.new ≡ operands.old ++ lanes_operands
+        (labels (program_of program.now)) (map lane_shape_of shape.now) (map lane_of lanes.now)) }
 {
     for k in 0..shape.len() {
         add_lane(alloc, program, &shape[k], &lanes[k], operands)?;
@@ -232,7 +239,8 @@ fn lane_outputs(
     count: usize,
 ) -> Result<List<Name>, Memory>
     requires { first + count ≤ length program.now.lanes }
-    ensures { IfOk result (λ names. names ≡ outputs_from (labels (program_of program.now)) first count) }
+    ensures { IfOk result (λ names.
+        names ≡ outputs_from (labels (program_of program.now)) first count) }
 {
     prove!(program.lanes.len() <= 1 << 30);
     let mut outputs = List::new(alloc);
@@ -244,7 +252,8 @@ fn lane_outputs(
 
 // The operand of the counter's port, where there is one.
 fn counter_operands(alloc: Global, counter: Counter, counts: bool) -> Result<List<Operand>, Memory>
-    ensures { IfOk result (λ operands. operands ≡ (if counts then operand.Name (counter_name counter) ∷ [] else [])) }
+    ensures { IfOk result (λ operands.
+        operands ≡ (if counts then operand.Name (counter_name counter) ∷ [] else [])) }
 {
     let mut operands = List::new(alloc);
     if !counts {
@@ -264,9 +273,13 @@ fn cell_operands(
 ) -> Result<List<Operand>, Memory>
     requires bounds { own.first ≤ own.value }
     requires most { own.value < length program.now.lanes }
-    requires suit { SuitLanes (map lane_shape_of shape.now) (lanes_of (program_of program.now) own) }
-    requires there { AllByRecursion (LaneThere (length program.now.lanes)) (lanes_of (program_of program.now) own) }
-    ensures { IfOk result (λ operands. operands ≡ cell_operands (labels (program_of program.now)) (counter_name counter) (map lane_shape_of shape.now) (lanes_of (program_of program.now) own)) }
+    requires suit { SuitLanes (map lane_shape_of shape.now)
+        (lanes_of (program_of program.now) own) }
+    requires there { AllByRecursion
+        (LaneThere (length program.now.lanes)) (lanes_of (program_of program.now) own) }
+    ensures { IfOk result (λ operands.
+        operands ≡ cell_operands (labels (program_of program.now)) (counter_name counter)
+        (map lane_shape_of shape.now) (lanes_of (program_of program.now) own)) }
 {
     let lanes = cell_lanes(program, own);
     let mut operands = counter_operands(alloc, counter, counts(shape))?;
@@ -285,9 +298,12 @@ pub(crate) fn instance(
 ) -> Result<Instance, Memory>
     requires program { IsProgram (program_of program.now) }
     requires cell { cell < length program.now.cells }
-    requires suit { (own : CellLanes) → slice_get program.now.cells cell ≡ Some own → SuitLanes (map lane_shape_of shape.now) (lanes_of (program_of program.now) own) }
-    ensures { IfOk result (λ instance. (own : CellLanes) → slice_get program.now.cells cell ≡ Some own
-        → instance ≡ instance_by (labels (program_of program.now)) (counter_name counter) cell kind own.first (map lane_shape_of shape.now) (lanes_of (program_of program.now) own)) }
+    requires suit { (own : CellLanes) → slice_get program.now.cells cell ≡ Some own
+        → SuitLanes (map lane_shape_of shape.now) (lanes_of (program_of program.now) own) }
+    ensures { IfOk result (λ instance. (own : CellLanes)
+        → slice_get program.now.cells cell ≡ Some own
+        → instance ≡ instance_by (labels (program_of program.now)) (counter_name counter)
+        cell kind own.first (map lane_shape_of shape.now) (lanes_of (program_of program.now) own)) }
 {
     let own = program.cells.as_slice()[cell];
     let inputs = cell_operands(alloc, counter, program, shape, own)?;

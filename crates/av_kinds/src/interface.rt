@@ -40,7 +40,8 @@ fn add_ports(
     count: usize,
     ports: &mut List<Port>,
 ) -> Result<(), Memory>
-    ensures { OnOk result (ports.new ≡ ports.old ++ ports_by (numbered letter.now) width first count) }
+    ensures { OnOk result (ports.new
+        ≡ ports.old ++ ports_by (numbered letter.now) width first count) }
 {
     for k in 0..count {
         ports.push(Port {
@@ -104,7 +105,8 @@ fn add_words(
     ports: &mut List<Port>,
 ) -> Result<(), Memory>
     requires { selections < 2 ^ 63 }
-    ensures { OnOk result (ports.new ≡ ports.old ++ (ports_by (numbered letter.now) width word (suc selections) ++ bounds_by bound selections)) }
+    ensures { OnOk result (ports.new ≡ ports.old ++ (ports_by
+        (numbered letter.now) width word (suc selections) ++ bounds_by bound selections)) }
 {
     add_ports(alloc, letter, width, word, selections + 1, ports)?;
     add_ports(alloc, "b", counter_width(), bound, selections, ports)
@@ -169,8 +171,11 @@ impl Interface {
     // The ports of a place with words of input ports.
     fn add_inputs(&mut self, alloc: Global, width: Width, selections: u32) -> Result<Tap, Memory>
         requires { AreFew self.old }
-        ensures tap { IfOk result (λ tap. tap ≡ interfaces.tap_in (counts_of self.old) Inlet.Inputs width selections) }
-        ensures ports { OnOk result (AddsPorts self.old self.new (interfaces.ports_in (counts_of self.old) Inlet.Inputs width selections) (interfaces.past (counts_of self.old) Inlet.Inputs selections)) }
+        ensures tap { IfOk result (λ tap.
+            tap ≡ interfaces.tap_in (counts_of self.old) Inlet.Inputs width selections) }
+        ensures ports { OnOk result (AddsPorts self.old self.new
+            (interfaces.ports_in (counts_of self.old) Inlet.Inputs width selections)
+            (interfaces.past (counts_of self.old) Inlet.Inputs selections)) }
     {
         prove!(self.ports.len() <= 1 << 30);
         let (word, bound, selections) = (self.inputs, self.bounds, selections as usize);
@@ -184,8 +189,11 @@ impl Interface {
     // The ports of a place with words of lines.
     fn add_taps(&mut self, alloc: Global, width: Width, selections: u32) -> Result<Tap, Memory>
         requires { AreFew self.old }
-        ensures tap { IfOk result (λ tap. tap ≡ interfaces.tap_in (counts_of self.old) Inlet.Taps width selections) }
-        ensures ports { OnOk result (AddsPorts self.old self.new (interfaces.ports_in (counts_of self.old) Inlet.Taps width selections) (interfaces.past (counts_of self.old) Inlet.Taps selections)) }
+        ensures tap { IfOk result (λ tap.
+            tap ≡ interfaces.tap_in (counts_of self.old) Inlet.Taps width selections) }
+        ensures ports { OnOk result (AddsPorts self.old self.new
+            (interfaces.ports_in (counts_of self.old) Inlet.Taps width selections)
+            (interfaces.past (counts_of self.old) Inlet.Taps selections)) }
     {
         prove!(self.ports.len() <= 1 << 30);
         let (word, bound, selections) = (self.taps, self.bounds, selections as usize);
@@ -200,7 +208,8 @@ impl Interface {
     fn add_site(&mut self, alloc: Global, site: SiteShape) -> Result<Tap, Memory>
         requires { AreFew self.old }
         ensures tap { IfOk result (λ tap. tap ≡ interfaces.tap_of (counts_of self.old) site) }
-        ensures ports { OnOk result (AddsPorts self.old self.new (interfaces.site_ports (counts_of self.old) site) (interfaces.past_site (counts_of self.old) site)) }
+        ensures ports { OnOk result (AddsPorts self.old self.new (interfaces.site_ports
+            (counts_of self.old) site) (interfaces.past_site (counts_of self.old) site)) }
     {
         match site.inlet {
             Inlet::Inputs => self.add_inputs(alloc, site.width, site.selections),
@@ -220,8 +229,10 @@ impl Interface {
         mode: &ModeShape<'a>,
     ) -> Result<Datapath<'a>, Memory>
         requires { AreFew self.old }
-        ensures datapath { IfOk result (λ own. as_datapath own ≡ interfaces.datapath_of (counts_of self.old) (mode_shape_of mode.now)) }
-        ensures ports { OnOk result (AddsPorts self.old self.new (interfaces.sites_ports (counts_of self.old) mode.now.sites) (interfaces.past_sites (counts_of self.old) mode.now.sites)) }
+        ensures datapath { IfOk result (λ own. as_datapath own
+            ≡ interfaces.datapath_of (counts_of self.old) (mode_shape_of mode.now)) }
+        ensures ports { OnOk result (AddsPorts self.old self.new (interfaces.sites_ports (counts_of
+            self.old) mode.now.sites) (interfaces.past_sites (counts_of self.old) mode.now.sites)) }
     {
         let mut taps = List::new(alloc);
         for site in mode.sites.as_slice() {
@@ -240,8 +251,11 @@ impl Interface {
         mode: &ModeShape<'a>,
     ) -> Result<GuardedDatapath<'a>, Memory>
         requires { AreFew self.old }
-        ensures datapath { IfOk result (λ own. as_guarded own ≡ interfaces.guarded_of (counts_of self.old) (mode_shape_of mode.now)) }
-        ensures ports { OnOk result (AddsPorts self.old self.new (interfaces.tested_ports (counts_of self.old) (mode_shape_of mode.now)) (interfaces.past_tested (counts_of self.old) (mode_shape_of mode.now))) }
+        ensures datapath { IfOk result (λ own.
+            as_guarded own ≡ interfaces.guarded_of (counts_of self.old) (mode_shape_of mode.now)) }
+        ensures ports { OnOk result (AddsPorts self.old self.new
+            (interfaces.tested_ports (counts_of self.old) (mode_shape_of mode.now))
+            (interfaces.past_tested (counts_of self.old) (mode_shape_of mode.now))) }
     {
         let datapath = self.add_datapath(alloc, mode)?;
         prove!(self.ports.len() <= 1 << 30);
@@ -260,8 +274,11 @@ impl Interface {
     ) -> Result<LaneDatapaths<'a>, Memory>
         requires few { AreFew self.old }
         requires some { 0 < length lane.now.modes }
-        ensures datapaths { IfOk result (λ own. as_datapaths own ≡ interfaces.datapaths_of (counts_of self.old) (lane_shape_of lane.now).modes) }
-        ensures ports { OnOk result (AddsPorts self.old self.new (interfaces.modes_ports (counts_of self.old) (lane_shape_of lane.now).modes) (interfaces.past_modes (counts_of self.old) (lane_shape_of lane.now).modes)) }
+        ensures datapaths { IfOk result (λ own. as_datapaths own
+            ≡ interfaces.datapaths_of (counts_of self.old) (lane_shape_of lane.now).modes) }
+        ensures ports { OnOk result (AddsPorts self.old self.new
+            (interfaces.modes_ports (counts_of self.old) (lane_shape_of lane.now).modes)
+            (interfaces.past_modes (counts_of self.old) (lane_shape_of lane.now).modes)) }
     {
         let shapes = lane.modes.as_slice();
         let last = shapes.len() - 1;

@@ -41,8 +41,10 @@ fn add_gate(
     wires: &mut List<Port>,
     drives: &mut List<Drive>,
 ) -> Result<(), Memory>
-    ensures wires { OnOk result (wires.new ≡ wires.old ++ port gate.width (wire_in names number) ∷ []) }
-    ensures drives { OnOk result (drives.new ≡ drives.old ++ record { target = wire_in names number; operation = gate.operation } ∷ []) }
+    ensures wires { OnOk result (wires.new
+        ≡ wires.old ++ port gate.width (wire_in names number) ∷ []) }
+    ensures drives { OnOk result (drives.new
+        ≡ drives.old ++ record { target = wire_in names number; operation = gate.operation } ∷ []) }
 {
     let LaneGate { width, operation } = gate;
     let target = names.wire(alloc, number)?;
@@ -59,8 +61,10 @@ fn add_gates(
     wires: &mut List<Port>,
     drives: &mut List<Drive>,
 ) -> Result<(), Memory>
-    ensures wires { OnOk result (wires.new ≡ wires.old ++ ports_from (wire_in names) 0 gates.items) }
-    ensures drives { OnOk result (drives.new ≡ drives.old ++ drives_from (wire_in names) 0 gates.items) }
+    ensures wires { OnOk result (wires.new
+        ≡ wires.old ++ ports_from (wire_in names) 0 gates.items) }
+    ensures drives { OnOk result (drives.new
+        ≡ drives.old ++ drives_from (wire_in names) 0 gates.items) }
 {
     for (number, gate) in gates.into_iter().enumerate() {
         add_gate(alloc, names, number, gate, wires, drives)?;
@@ -78,7 +82,8 @@ fn add_output(
     drives: &mut List<Drive>,
 ) -> Result<(), Memory>
     ensures outputs { OnOk result (outputs.new ≡ outputs.old ++ port width name ∷ []) }
-    ensures drives { OnOk result (drives.new ≡ drives.old ++ record { target = name; operation = root } ∷ []) }
+    ensures drives { OnOk result (drives.new
+        ≡ drives.old ++ record { target = name; operation = root } ∷ []) }
 {
     let target = Name::new(alloc, name.as_str())?;
     drives.push(Drive {
@@ -141,7 +146,8 @@ fn add_lane_of(
     requires there { number < length shape.now }
     requires shape { IsKindShape (map lane_shape_of shape.now) }
     requires few { interfaces.AreFew interface.old }
-    ensures { OnOk result (AddsLaneOf counter.now (map lane_shape_of shape.now) number interface.old interface.new parts.old parts.new) }
+    ensures { OnOk result (AddsLaneOf counter.now
+        (map lane_shape_of shape.now) number interface.old interface.new parts.old parts.new) }
 {
     let lane = &shape[number];
     let own = interface.add_lane(alloc, lane)?;

@@ -43,7 +43,8 @@ fn kind_count(program: &Program<'_>) -> usize
 // The shapes of the kinds.
 fn shapes<'a>(alloc: Global, program: &Program<'a>) -> Result<List<List<LaneShape<'a>>>, Memory>
     requires { IsProgram (program_of program.now) }
-    ensures { IfOk result (λ shapes. AreShapesOf (program_of program.now) (map (map lane_shape_of) shapes)) }
+    ensures { IfOk result (λ shapes.
+        AreShapesOf (program_of program.now) (map (map lane_shape_of) shapes)) }
 {
     let mut shapes = List::new(alloc);
     for number in 0..kind_count(program) {
@@ -88,7 +89,8 @@ fn instances(
 ) -> Result<List<Instance>, Memory>
     requires program { IsProgram (program_of program.now) }
     requires shapes { AreShapesOf (program_of program.now) (map (map lane_shape_of) shapes.now) }
-    ensures { IfOk result (λ instances. instances ≡ instances_by counter (program_of program.now) (map (map lane_shape_of) shapes.now) 0 program.now.cells program.now.kinds) }
+    ensures { IfOk result (λ instances. instances ≡ instances_by counter (program_of program.now)
+        (map (map lane_shape_of) shapes.now) 0 program.now.cells program.now.kinds) }
 {
     prove!(shapes.len() <= 1 << 30);
     let mut instances = List::new(alloc);

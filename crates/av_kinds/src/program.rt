@@ -113,7 +113,13 @@ impl<'a> Model for Lane<'a> {
 
     ghost coded = { Prim.hlevel (codes, made.the_row.coded) };
 
-    ghost view = { λ l. record { home = l.home; rank = l.rank; width = l.width; modes = l.modes; length = l.length } };
+    ghost view = { λ l. record {
+      home = l.home;
+      rank = l.rank;
+      width = l.width;
+      modes = l.modes;
+      length = l.length;
+    } };
 }
 
 /// The lanes of a cell by their numbers: its pipelines from the first on, and then its value.
@@ -148,7 +154,14 @@ impl<'a> Model for Program<'a> {
 
     ghost coded = { Prim.hlevel (codes, made.the_row.coded) };
 
-    ghost view = { λ p. record { inputs = p.inputs; lanes = p.lanes; cells = p.cells; kinds = p.kinds; outputs = p.outputs; stride = p.stride } };
+    ghost view = { λ p. record {
+      inputs = p.inputs;
+      lanes = p.lanes;
+      cells = p.cells;
+      kinds = p.kinds;
+      outputs = p.outputs;
+      stride = p.stride;
+    } };
 }
 
 /// The lanes of a cell.

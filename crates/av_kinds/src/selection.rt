@@ -37,7 +37,8 @@ fn guard_test(
     gates: &mut Vec<LaneGate>,
     guard: &Guard,
 ) -> Result<Operation, Memory>
-    ensures { IfOk result (AddsBuilt gates.old.items gates.new.items (guard_built (wire_in names) (length gates.old.items) counter.now guard.now)) }
+    ensures { IfOk result (AddsBuilt gates.old.items gates.new.items
+        (guard_built (wire_in names) (length gates.old.items) counter.now guard.now)) }
 {
     match guard {
         Guard::UpTo(last) => counted(alloc, counter, Symbol::LessEqual, last),
@@ -65,7 +66,8 @@ fn either(
     first: Operand,
     second: Operand,
 ) -> Result<Operation, Memory>
-    ensures { IfOk result (AddsBuilt gates.old.items gates.new.items (choice_built (wire_in names) (length gates.old.items) counter.now guard.now first second)) }
+    ensures { IfOk result (AddsBuilt gates.old.items gates.new.items (choice_built
+        (wire_in names) (length gates.old.items) counter.now guard.now first second)) }
 {
     let test = guard_test(alloc, counter, names, gates, guard)?;
     let condition = named(alloc, names, gates, bit(), test)?;
@@ -87,7 +89,8 @@ pub(crate) fn in_guard(
     operand: &Operand,
     root: Operation,
 ) -> Result<Operation, Memory>
-    ensures { IfOk result (AddsGuarded (wire_in names) width counter.now guard.now operand.now gates.old.items root gates.new.items) }
+    ensures { IfOk result (AddsGuarded (wire_in names)
+        width counter.now guard.now operand.now gates.old.items root gates.new.items) }
 {
     let second = named(alloc, names, gates, width, root)?;
     let first = operand.copied(alloc)?;
@@ -102,7 +105,8 @@ fn selection(
     gates: &mut Vec<LaneGate>,
     tap: &Tap,
 ) -> Result<Operation, Memory>
-    ensures { IfOk result (AddsBuilt gates.old.items gates.new.items (tap_built (wire_in names) counter.now (length gates.old.items) tap.now)) }
+    ensures { IfOk result (AddsBuilt gates.old.items gates.new.items
+        (tap_built (wire_in names) counter.now (length gates.old.items) tap.now)) }
 {
     let arms = tap.arms.as_slice();
     let mut root = Operation::Plain(tap.otherwise.copied(alloc)?);
@@ -154,7 +158,8 @@ pub(crate) fn fitted(
     gates: &mut Vec<LaneGate>,
     tap: &Tap,
 ) -> Result<Operation, Memory>
-    ensures { IfOk result (AddsBuilt gates.old.items gates.new.items (fit_built (wire_in names) width counter.now (length gates.old.items) tap.now)) }
+    ensures { IfOk result (AddsBuilt gates.old.items gates.new.items
+        (fit_built (wire_in names) width counter.now (length gates.old.items) tap.now)) }
 {
     let root = selection(alloc, counter, names, gates, tap)?;
     if tap.width.bits == width.bits {
@@ -173,7 +178,8 @@ pub(crate) fn selections(
     gates: &mut Vec<LaneGate>,
     taps: &[Tap],
 ) -> Result<List<Operand>, Memory>
-    ensures { IfOk result (AddsTaken gates.old.items gates.new.items (taps_built (wire_in names) width counter.now (length gates.old.items) taps.now)) }
+    ensures { IfOk result (AddsTaken gates.old.items gates.new.items
+        (taps_built (wire_in names) width counter.now (length gates.old.items) taps.now)) }
 {
     let mut operands = List::new(alloc);
     for tap in taps {

@@ -43,7 +43,8 @@ impl<'a> Model for ModeShape<'a> {
 
     ghost coded = { Prim.hlevel (codes, made.the_row.coded) };
 
-    ghost view = { λ m. record { number = m.number; windows = m.windows; sites = m.sites; tree = m.tree.now } };
+    ghost view = { λ m.
+        record { number = m.number; windows = m.windows; sites = m.sites; tree = m.tree.now } };
 }
 
 /// A lane of a kind, with its modes.
@@ -101,7 +102,8 @@ fn mode_shape<'a>(
     number: usize,
     mode: &Mode<'a>,
 ) -> Result<ModeShape<'a>, Memory>
-    ensures { IfOk result (λ shape. mode_shape_of shape ≡ shaped.mode_shape_by (option_map (λ m. mode_shape_of m.now) before.entry) number (mode_of mode.now)) }
+    ensures { IfOk result (λ shape. mode_shape_of shape ≡ shaped.mode_shape_by
+        (option_map (λ m. mode_shape_of m.now) before.entry) number (mode_of mode.now)) }
 {
     let sites = mode.work.sites.as_slice();
     let own = mode.windows.len() as u32;
@@ -127,7 +129,8 @@ fn mode_shapes<'a>(
     before: &[ModeShape<'a>],
     modes: &[Mode<'a>],
 ) -> Result<List<ModeShape<'a>>, Memory>
-    ensures { IfOk result (λ shapes. map mode_shape_of shapes ≡ shaped.mode_shapes (map mode_shape_of before.now) 0 (map mode_of modes.now)) }
+    ensures { IfOk result (λ shapes. map mode_shape_of shapes
+        ≡ shaped.mode_shapes (map mode_shape_of before.now) 0 (map mode_of modes.now)) }
 {
     let mut shapes = List::new(alloc);
     for (number, mode) in modes.iter().enumerate() {
@@ -142,7 +145,8 @@ fn lane_shape<'a>(
     before: Option<&LaneShape<'a>>,
     lane: &Lane<'a>,
 ) -> Result<LaneShape<'a>, Memory>
-    ensures { IfOk result (λ shape. lane_shape_of shape ≡ shaped.lane_shape_by (option_map (λ m. lane_shape_of m.now) before.entry) (lane_of lane.now)) }
+    ensures { IfOk result (λ shape. lane_shape_of shape ≡ shaped.lane_shape_by
+        (option_map (λ m. lane_shape_of m.now) before.entry) (lane_of lane.now)) }
 {
     match before {
         Some(shape) => Ok(LaneShape {
@@ -162,7 +166,8 @@ fn lane_shapes<'a>(
     before: &[LaneShape<'a>],
     lanes: &[Lane<'a>],
 ) -> Result<List<LaneShape<'a>>, Memory>
-    ensures { IfOk result (λ shapes. map lane_shape_of shapes ≡ shaped.lane_shapes (map lane_shape_of before.now) (map lane_of lanes.now)) }
+    ensures { IfOk result (λ shapes. map lane_shape_of shapes
+        ≡ shaped.lane_shapes (map lane_shape_of before.now) (map lane_of lanes.now)) }
 {
     let mut shapes = List::new(alloc);
     for (k, lane) in lanes.iter().enumerate() {
@@ -193,7 +198,8 @@ fn add_used<'a>(
     mode: &ModeShape<'a>,
     modes: &mut List<ModeShape<'a>>,
 ) -> Result<(), Memory>
-    ensures { OnOk result (map mode_shape_of modes.new ≡ map mode_shape_of modes.old ++ filter shaped.is_used (mode_shape_of mode.now ∷ [])) }
+    ensures { OnOk result (map mode_shape_of modes.new
+        ≡ map mode_shape_of modes.old ++ filter shaped.is_used (mode_shape_of mode.now ∷ [])) }
 {
     if mode.windows > 0 {
         modes.push(copied(alloc, mode)?)
@@ -226,7 +232,8 @@ fn with_cell<'a>(
     requires program { programs.IsProgram (program_of program.now) }
     requires cell { cell < length program.now.cells }
     ensures { IfOk result (λ shapes. (own : CellLanes) → slice_get program.now.cells cell ≡ Some own
-        → map lane_shape_of shapes ≡ shaped.lane_shapes (map lane_shape_of before.now) (programs.lanes_of (program_of program.now) own)) }
+        → map lane_shape_of shapes ≡ shaped.lane_shapes
+        (map lane_shape_of before.now) (programs.lanes_of (program_of program.now) own)) }
 {
     let own = program.cells.as_slice()[cell];
     lane_shapes(alloc, before, cell_lanes(program, own))
@@ -239,7 +246,8 @@ fn whole_shape<'a>(
     kind: usize,
 ) -> Result<List<LaneShape<'a>>, Memory>
     requires { programs.IsProgram (program_of program.now) }
-    ensures { IfOk result (λ shapes. map lane_shape_of shapes ≡ shaped.shapes_by (program_of program.now) kind [] program.now.cells program.now.kinds) }
+    ensures { IfOk result (λ shapes. map lane_shape_of shapes
+        ≡ shaped.shapes_by (program_of program.now) kind [] program.now.cells program.now.kinds) }
 {
     let mut shapes = List::new(alloc);
     let kinds = program.kinds.as_slice();
@@ -258,7 +266,8 @@ pub(crate) fn kind_shape<'a>(
     kind: usize,
 ) -> Result<List<LaneShape<'a>>, Memory>
     requires { programs.IsProgram (program_of program.now) }
-    ensures { IfOk result (λ shapes. map lane_shape_of shapes ≡ shaped.kind_shape (program_of program.now) kind) }
+    ensures { IfOk result (λ shapes.
+        map lane_shape_of shapes ≡ shaped.kind_shape (program_of program.now) kind) }
 {
     let whole = whole_shape(alloc, program, kind)?;
     let mut shapes = List::new(alloc);

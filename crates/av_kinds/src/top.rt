@@ -58,7 +58,8 @@ fn output_widths(alloc: Global, program: &Program<'_>) -> Result<List<Width>, Me
 // The output ports, each as wide as its lane.
 fn output_ports(alloc: Global, program: &Program<'_>) -> Result<List<Port>, Memory>
     requires { AllByRecursion (λ q. q < length program.now.lanes) program.now.outputs }
-    ensures { IfOk result (λ ports. ports ≡ numbered_ports output_name 0 (output_widths (program_of program.now))) }
+    ensures { IfOk result (λ ports.
+        ports ≡ numbered_ports output_name 0 (output_widths (program_of program.now))) }
 {
     let widths = output_widths(alloc, program)?;
     ports(alloc, "o", widths.as_slice())
@@ -113,7 +114,8 @@ fn parts_of(alloc: Global, program: &Program<'_>) -> Result<TopParts, Memory>
 // Each output port has the word of its lane.
 fn add_outputs(alloc: Global, program: &Program<'_>, drives: &mut List<Drive>) -> Result<(), Memory>
     requires { AllByRecursion (λ q. q < length program.now.lanes) program.now.outputs }
-    ensures { OnOk result (drives.new ≡ drives.old ++ output_drives (labels (program_of program.now)) 0 program.now.outputs) }
+    ensures { OnOk result (drives.new
+        ≡ drives.old ++ output_drives (labels (program_of program.now)) 0 program.now.outputs) }
 {
     for (number, lane) in program.outputs.as_slice().iter().enumerate() {
         let name = lane_names(program, *lane).value(alloc)?;

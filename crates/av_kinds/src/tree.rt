@@ -66,7 +66,8 @@ fn operator(
     left: Operand,
     right: Operand,
 ) -> Result<Operation, Memory>
-    ensures { IfOk result (Adds gates.new.items (joined (wire_in names) 0 sign gates.old.items left right)) }
+    ensures { IfOk result
+        (Adds gates.new.items (joined (wire_in names) 0 sign gates.old.items left right)) }
 {
     match sign {
         Sign::Add => Ok(binary(left, Symbol::Add, right)),
@@ -95,7 +96,9 @@ pub(crate) fn tree(
     tree: &Tree,
 ) -> Result<Operation, Memory>
     requires { site.old + site_count (view tree.now) ≤ length taps.now }
-    ensures root { IfOk result (AddsBuilt gates.old.items gates.new.items (tree_built (wire_in names) width (operand_at width taps.now) (length gates.old.items) site.old (view tree.now))) }
+    ensures root { IfOk result
+        (AddsBuilt gates.old.items gates.new.items (tree_built (wire_in names) width
+        (operand_at width taps.now) (length gates.old.items) site.old (view tree.now))) }
     ensures sites { OnOk result (site.new ≡ site.old + site_count (view tree.now)) }
 {
     match tree {
@@ -143,7 +146,9 @@ fn operand(
     of: &Tree,
 ) -> Result<Operand, Memory>
     requires { site.old + site_count (view of.now) ≤ length taps.now }
-    ensures operand { IfOk result (AddsOperand (wire_in names) width gates.old.items gates.new.items (tree_built (wire_in names) width (operand_at width taps.now) (length gates.old.items) site.old (view of.now))) }
+    ensures operand { IfOk result (AddsOperand
+        (wire_in names) width gates.old.items gates.new.items (tree_built (wire_in names) width
+        (operand_at width taps.now) (length gates.old.items) site.old (view of.now))) }
     ensures sites { OnOk result (site.new ≡ site.old + site_count (view of.now)) }
 {
     let root = tree(alloc, names, width, taps, gates, site, of)?;

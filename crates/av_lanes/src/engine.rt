@@ -66,7 +66,8 @@ impl<'a> LaneEngine<'a> {
     pub(crate) fn new(alloc: Global, of: &'a Module) -> Result<LaneEngine<'a>, Memory>
         requires { IsSound of.now }
         ensures of { IfOk result (λ lanes. lanes.of ≡ of.now) }
-        ensures words { IfOk result (λ lanes. (k : ℕ) → k < 8 → lane k lanes.words ≡ replicate (length (all_names of.now)) 0) }
+        ensures words { IfOk result (λ lanes. (k : ℕ)
+            → k < 8 → lane k lanes.words ≡ replicate (length (all_names of.now)) 0) }
         ensures flag { IfOk result (λ lanes. lanes.settled ≡ false) }
     {
         let merged = Merged::new(alloc, of)?;
@@ -100,13 +101,17 @@ impl<'a> LaneEngine<'a> {
     /// Presents a value in each lane at an input port, by its place in the module's `inputs`.
     pub(crate) fn set(&mut self, port: u32, values: u64x8)
         requires port { port < length self.old.of.inputs }
-        requires fits { ForSome (slice_get self.old.of.inputs port) (λ p. All (IsWord p.width.bits) values) }
+        requires fits { ForSome (slice_get self.old.of.inputs port) (λ p.
+            All (IsWord p.width.bits) values) }
         ensures of { self.new.of ≡ self.old.of }
-        ensures words { (k : ℕ) → k < 8 → lane k self.new.words ≡ slice_set (lane k self.old.words) port (slice_index values k) }
+        ensures words { (k : ℕ) → k < 8 → lane k self.new.words
+            ≡ slice_set (lane k self.old.words) port (slice_index values k) }
         ensures flag { self.new.settled ≡ false }
-        ensures port { IfSome (slice_get self.old.of.inputs port) (λ p. (k : ℕ) → k < 8 → carried k self.new p.name ≡ slice_index values k) }
-        ensures others { IfSome (slice_get self.old.of.inputs port) (λ p. (k : ℕ) → k < 8 → (name : Items ℕ) → name ≢ p.name
-            → carried k self.new name ≡ carried k self.old name) }
+        ensures port { IfSome (slice_get self.old.of.inputs port) (λ p. (k : ℕ)
+            → k < 8 → carried k self.new p.name ≡ slice_index values k) }
+        ensures others { IfSome (slice_get self.old.of.inputs port) (λ p. (k : ℕ)
+            → k < 8 → (name : Items ℕ)
+            → name ≢ p.name → carried k self.new name ≡ carried k self.old name) }
     {
         passes::present(
             &self.circuit,
@@ -124,7 +129,8 @@ impl<'a> LaneEngine<'a> {
     pub(crate) fn settle(&mut self)
         ensures of { self.new.of ≡ self.old.of }
         ensures settled { (k : ℕ) → k < 8 → Settled self.new.of (carried k self.new) }
-        ensures given { (k : ℕ) → k < 8 → Agree (given_names self.new.of) (carried k self.old) (carried k self.new) }
+        ensures given { (k : ℕ) → k < 8
+            → Agree (given_names self.new.of) (carried k self.old) (carried k self.new) }
         ensures flag { IsTrue self.new.settled }
     {
         if self.dense {
@@ -145,7 +151,8 @@ impl<'a> LaneEngine<'a> {
     fn settle_all(&mut self)
         ensures of { self.new.of ≡ self.old.of }
         ensures settled { (k : ℕ) → k < 8 → Settled self.new.of (carried k self.new) }
-        ensures given { (k : ℕ) → k < 8 → Agree (given_names self.new.of) (carried k self.old) (carried k self.new) }
+        ensures given { (k : ℕ) → k < 8
+            → Agree (given_names self.new.of) (carried k self.old) (carried k self.new) }
         ensures flag { IsTrue self.new.settled }
     {
         passes::settle(&self.circuit, &self.drives, &mut self.words);
@@ -157,8 +164,10 @@ impl<'a> LaneEngine<'a> {
     pub(crate) fn value(&self, wire: u32) -> [u64; 8]
         requires place { wire < length self.now.of.drives }
         requires settled { IsTrue self.now.settled }
-        ensures word { (k : ℕ) → k < 8 → (d : _) → slice_index result k ≡ carried k self.now (slice_index_or self.now.of.drives wire d).target }
-        ensures fits { (k : ℕ) → k < 8 → (d : _) → IsWord (width_of self.now.of (slice_index_or self.now.of.drives wire d).target) (slice_index result k) }
+        ensures word { (k : ℕ) → k < 8 → (d : _) → slice_index result k
+            ≡ carried k self.now (slice_index_or self.now.of.drives wire d).target }
+        ensures fits { (k : ℕ) → k < 8 → (d : _) → IsWord (width_of self.now.of
+            (slice_index_or self.now.of.drives wire d).target) (slice_index result k) }
         ensures settled { (k : ℕ) → k < 8 → Settled self.now.of (carried k self.now) }
     {
         let place = self.circuit.target(wire as usize);
@@ -169,8 +178,10 @@ impl<'a> LaneEngine<'a> {
     pub(crate) fn tick(&mut self)
         requires { IsTrue self.old.settled }
         ensures of { self.new.of ≡ self.old.of }
-        ensures edge { (k : ℕ) → k < 8 → Edge self.new.of false (carried k self.old) (carried k self.new) }
-        ensures ports { (k : ℕ) → k < 8 → Agree (names_of self.new.of.inputs) (carried k self.old) (carried k self.new) }
+        ensures edge { (k : ℕ) → k < 8
+            → Edge self.new.of false (carried k self.old) (carried k self.new) }
+        ensures ports { (k : ℕ) → k < 8
+            → Agree (names_of self.new.of.inputs) (carried k self.old) (carried k self.new) }
         ensures flag { self.new.settled ≡ false }
     {
         if self.is_dense_tick() {
@@ -200,8 +211,10 @@ impl<'a> LaneEngine<'a> {
     fn tick_marked(&mut self)
         requires { IsTrue self.old.settled }
         ensures of { self.new.of ≡ self.old.of }
-        ensures edge { (k : ℕ) → k < 8 → Edge self.new.of false (carried k self.old) (carried k self.new) }
-        ensures ports { (k : ℕ) → k < 8 → Agree (names_of self.new.of.inputs) (carried k self.old) (carried k self.new) }
+        ensures edge { (k : ℕ) → k < 8
+            → Edge self.new.of false (carried k self.old) (carried k self.new) }
+        ensures ports { (k : ℕ) → k < 8
+            → Agree (names_of self.new.of.inputs) (carried k self.old) (carried k self.new) }
         ensures flag { self.new.settled ≡ false }
     {
         mark_anew(self.dense, &mut self.stale, &mut self.due);
@@ -221,8 +234,10 @@ impl<'a> LaneEngine<'a> {
     fn tick_all(&mut self)
         requires { IsTrue self.old.settled }
         ensures of { self.new.of ≡ self.old.of }
-        ensures edge { (k : ℕ) → k < 8 → Edge self.new.of false (carried k self.old) (carried k self.new) }
-        ensures ports { (k : ℕ) → k < 8 → Agree (names_of self.new.of.inputs) (carried k self.old) (carried k self.new) }
+        ensures edge { (k : ℕ) → k < 8
+            → Edge self.new.of false (carried k self.old) (carried k self.new) }
+        ensures ports { (k : ℕ) → k < 8
+            → Agree (names_of self.new.of.inputs) (carried k self.old) (carried k self.new) }
         ensures flag { self.new.settled ≡ false }
     {
         passes::tick(&self.circuit, &self.moves, &mut self.words, &mut self.next);
@@ -233,8 +248,10 @@ impl<'a> LaneEngine<'a> {
     /// One edge with `rst` 1 in each lane: all registers take their literals.
     pub(crate) fn reset(&mut self)
         ensures of { self.new.of ≡ self.old.of }
-        ensures edge { (k : ℕ) → k < 8 → Edge self.new.of true (carried k self.old) (carried k self.new) }
-        ensures ports { (k : ℕ) → k < 8 → Agree (names_of self.new.of.inputs) (carried k self.old) (carried k self.new) }
+        ensures edge { (k : ℕ) → k < 8
+            → Edge self.new.of true (carried k self.old) (carried k self.new) }
+        ensures ports { (k : ℕ) → k < 8
+            → Agree (names_of self.new.of.inputs) (carried k self.old) (carried k self.new) }
         ensures flag { self.new.settled ≡ false }
     {
         passes::reset(

@@ -126,7 +126,8 @@ fn product_form(left: Reading, right: Reading, width: Width) -> GateForm
 pub(crate) fn word_formed(form: &GateForm, words: &[u64x8]) -> u64x8
     requires takes { (k : ℕ) → k < 8 → CanTake (lane k words.now) (gate_of form.now) }
     requires masked { IsMasked form.now }
-    ensures { (k : ℕ) → k < 8 → slice_index result k ≡ gate_word (lane k words.now) (gate_of form.now) }
+    ensures { (k : ℕ) → k < 8
+        → slice_index result k ≡ gate_word (lane k words.now) (gate_of form.now) }
 {
     match form {
         GateForm::Sum {
@@ -154,7 +155,8 @@ pub(crate) fn word_formed(form: &GateForm, words: &[u64x8]) -> u64x8
 #[inline(always)]
 fn word_chosen(condition: Reading, first: Reading, second: Reading, words: &[u64x8]) -> u64x8
     requires { (k : ℕ) → k < 8 → CanTake (lane k words.now) (Multiplexer condition first second) }
-    ensures { (k : ℕ) → k < 8 → slice_index result k ≡ gate_word (lane k words.now) (Multiplexer condition first second) }
+    ensures { (k : ℕ) → k < 8
+        → slice_index result k ≡ gate_word (lane k words.now) (Multiplexer condition first second) }
 {
     let bits = word_read(condition, words);
     if differ(bits, constant(0)) {

@@ -39,7 +39,8 @@ fn cut(numbers: u64x8, width: Width) -> u64x8
 // The bits of each lane that a mask has.
 #[inline(always)]
 fn masked(numbers: u64x8, mask: u64) -> u64x8
-    ensures { (w : ℕ) → mask ≡ 2 ^ w - 1 → (k : ℕ) → k < 8 → slice_index result k ≡ residue w (slice_index numbers k) }
+    ensures { (w : ℕ) → mask ≡ 2 ^ w - 1
+        → (k : ℕ) → k < 8 → slice_index result k ≡ residue w (slice_index numbers k) }
 {
     numbers & u64x8::splat(mask)
 }
@@ -47,7 +48,8 @@ fn masked(numbers: u64x8, mask: u64) -> u64x8
 // The word where the bit is 1, else 0.
 #[inline(always)]
 fn where_set(bits: u64x8, words: u64x8) -> u64x8
-    ensures { (k : ℕ) → k < 8 → slice_index bits k < 2 → slice_index result k ≡ chosen_word (slice_index bits k) (slice_index words k) 0 }
+    ensures { (k : ℕ) → k < 8 → slice_index bits k < 2
+        → slice_index result k ≡ chosen_word (slice_index bits k) (slice_index words k) 0 }
 {
     (u64x8::splat(0) - bits) & words
 }
@@ -55,22 +57,24 @@ fn where_set(bits: u64x8, words: u64x8) -> u64x8
 /// The sum of words of a width, whose bits the mask has.
 #[inline(always)]
 pub(crate) fn masked_sum(left: u64x8, right: u64x8, mask: u64) -> u64x8
-    ensures { (w : ℕ) → w ≤ 64 → mask ≡ 2 ^ w - 1 → (k : ℕ) → k < 8 → slice_index result k ≡ word_sum w (slice_index left k) (slice_index right k) }
+    ensures { (w : ℕ) → w ≤ 64 → mask ≡ 2 ^ w - 1 → (k : ℕ)
+        → k < 8 → slice_index result k ≡ word_sum w (slice_index left k) (slice_index right k) }
 {
     masked(left + right, mask)
 }
 
 #[inline(always)]
 fn sum(left: u64x8, right: u64x8, width: Width) -> u64x8
-    ensures { (k : ℕ) → k < 8 → slice_index result k ≡ word_sum width.bits (slice_index left k) (slice_index right k) }
+    ensures { (k : ℕ) → k < 8
+        → slice_index result k ≡ word_sum width.bits (slice_index left k) (slice_index right k) }
 {
     masked_sum(left, right, greatest(width))
 }
 
 #[inline(always)]
 fn difference(left: u64x8, right: u64x8, width: Width) -> u64x8
-    ensures { (k : ℕ) → k < 8 → IsWord width.bits (slice_index right k)
-        → slice_index result k ≡ word_difference width.bits (slice_index left k) (slice_index right k) }
+    ensures { (k : ℕ) → k < 8 → IsWord width.bits (slice_index right k) → slice_index result k
+        ≡ word_difference width.bits (slice_index left k) (slice_index right k) }
 {
     cut(left - right, width)
 }
@@ -86,7 +90,8 @@ fn low_half(words: u64x8) -> u64x8
 /// The product of words of at most 32 bits, whose bits the mask has: that of the low halves, which a processor multiplies at once.
 #[inline(always)]
 pub(crate) fn masked_product(left: u64x8, right: u64x8, mask: u64) -> u64x8
-    ensures { (w : ℕ) → w ≤ 32 → mask ≡ 2 ^ w - 1 → (k : ℕ) → k < 8 → slice_index result k ≡ word_product w (slice_index left k) (slice_index right k) }
+    ensures { (w : ℕ) → w ≤ 32 → mask ≡ 2 ^ w - 1 → (k : ℕ)
+        → k < 8 → slice_index result k ≡ word_product w (slice_index left k) (slice_index right k) }
 {
     masked(low_half(left) * low_half(right), mask)
 }
@@ -95,7 +100,8 @@ pub(crate) fn masked_product(left: u64x8, right: u64x8, mask: u64) -> u64x8
 #[inline(always)]
 fn small_product(left: u64x8, right: u64x8, width: Width) -> u64x8
     requires { width.bits ≤ 32 }
-    ensures { (k : ℕ) → k < 8 → slice_index result k ≡ word_product width.bits (slice_index left k) (slice_index right k) }
+    ensures { (k : ℕ) → k < 8 → slice_index result k
+        ≡ word_product width.bits (slice_index left k) (slice_index right k) }
 {
     masked_product(left, right, greatest(width))
 }
@@ -103,14 +109,16 @@ fn small_product(left: u64x8, right: u64x8, width: Width) -> u64x8
 // A product of any width.
 #[inline(always)]
 fn any_product(left: u64x8, right: u64x8, width: Width) -> u64x8
-    ensures { (k : ℕ) → k < 8 → slice_index result k ≡ word_product width.bits (slice_index left k) (slice_index right k) }
+    ensures { (k : ℕ) → k < 8 → slice_index result k
+        ≡ word_product width.bits (slice_index left k) (slice_index right k) }
 {
     cut(left * right, width)
 }
 
 #[inline(always)]
 fn product(left: u64x8, right: u64x8, width: Width) -> u64x8
-    ensures { (k : ℕ) → k < 8 → slice_index result k ≡ word_product width.bits (slice_index left k) (slice_index right k) }
+    ensures { (k : ℕ) → k < 8 → slice_index result k
+        ≡ word_product width.bits (slice_index left k) (slice_index right k) }
 {
     if width.bits <= 32 {
         small_product(left, right, width)
@@ -121,28 +129,32 @@ fn product(left: u64x8, right: u64x8, width: Width) -> u64x8
 
 #[inline(always)]
 fn both(left: u64x8, right: u64x8) -> u64x8
-    ensures { (k : ℕ) → k < 8 → slice_index result k ≡ bit_and (slice_index left k) (slice_index right k) }
+    ensures { (k : ℕ) → k < 8
+        → slice_index result k ≡ bit_and (slice_index left k) (slice_index right k) }
 {
     left & right
 }
 
 #[inline(always)]
 fn either(left: u64x8, right: u64x8) -> u64x8
-    ensures { (k : ℕ) → k < 8 → slice_index result k ≡ bit_or (slice_index left k) (slice_index right k) }
+    ensures { (k : ℕ) → k < 8
+        → slice_index result k ≡ bit_or (slice_index left k) (slice_index right k) }
 {
     left | right
 }
 
 #[inline(always)]
 fn are_equal(left: u64x8, right: u64x8) -> u64x8
-    ensures { (k : ℕ) → k < 8 → slice_index result k ≡ bit (slice_index left k == slice_index right k) }
+    ensures { (k : ℕ) → k < 8
+        → slice_index result k ≡ bit (slice_index left k == slice_index right k) }
 {
     left.simd_eq(right).select(u64x8::splat(1), u64x8::splat(0))
 }
 
 #[inline(always)]
 fn are_unequal(left: u64x8, right: u64x8) -> u64x8
-    ensures { (k : ℕ) → k < 8 → slice_index result k ≡ bit (not (slice_index left k == slice_index right k)) }
+    ensures { (k : ℕ) → k < 8
+        → slice_index result k ≡ bit (not (slice_index left k == slice_index right k)) }
 {
     left.simd_ne(right).select(u64x8::splat(1), u64x8::splat(0))
 }
@@ -159,14 +171,16 @@ fn small_are_less(left: u64x8, right: u64x8) -> u64x8
 // Any numbers in order.
 #[inline(always)]
 fn any_are_less(left: u64x8, right: u64x8) -> u64x8
-    ensures { (k : ℕ) → k < 8 → slice_index result k ≡ bit (nat_lt (slice_index left k) (slice_index right k)) }
+    ensures { (k : ℕ) → k < 8
+        → slice_index result k ≡ bit (nat_lt (slice_index left k) (slice_index right k)) }
 {
     left.simd_lt(right).select(u64x8::splat(1), u64x8::splat(0))
 }
 
 #[inline(always)]
 fn are_less(left: u64x8, right: u64x8, width: Width) -> u64x8
-    ensures { (k : ℕ) → k < 8 → IsWord width.bits (slice_index left k) → IsWord width.bits (slice_index right k)
+    ensures { (k : ℕ) → k < 8
+        → IsWord width.bits (slice_index left k) → IsWord width.bits (slice_index right k)
         → slice_index result k ≡ bit (nat_lt (slice_index left k) (slice_index right k)) }
 {
     if width.bits < 64 {
@@ -178,7 +192,8 @@ fn are_less(left: u64x8, right: u64x8, width: Width) -> u64x8
 
 #[inline(always)]
 fn are_at_most(left: u64x8, right: u64x8, width: Width) -> u64x8
-    ensures { (k : ℕ) → k < 8 → IsWord width.bits (slice_index left k) → IsWord width.bits (slice_index right k)
+    ensures { (k : ℕ) → k < 8
+        → IsWord width.bits (slice_index left k) → IsWord width.bits (slice_index right k)
         → slice_index result k ≡ bit (nat_le (slice_index left k) (slice_index right k)) }
 {
     u64x8::splat(1) - are_less(right, left, width)
@@ -187,7 +202,8 @@ fn are_at_most(left: u64x8, right: u64x8, width: Width) -> u64x8
 // Each word moved up by half of the range, so that the order of two's complement is that of whole numbers.
 #[inline(always)]
 fn raised(words: u64x8, width: Width) -> u64x8
-    ensures { (k : ℕ) → k < 8 → slice_index result k ≡ word_sum width.bits (slice_index words k) (2 ^ (width.bits - 1)) }
+    ensures { (k : ℕ) → k < 8
+        → slice_index result k ≡ word_sum width.bits (slice_index words k) (2 ^ (width.bits - 1)) }
 {
     sum(words, u64x8::splat(1u64 << (width.bits - 1)), width)
 }
@@ -195,8 +211,9 @@ fn raised(words: u64x8, width: Width) -> u64x8
 /// Two unsigned words of the width under an operator.
 #[inline(always)]
 pub(crate) fn operated(symbol: Symbol, left: u64x8, right: u64x8, width: Width) -> u64x8
-    ensures { (k : ℕ) → k < 8 → IsWord width.bits (slice_index left k) → IsWord width.bits (slice_index right k)
-        → slice_index result k ≡ applied symbol width.bits (slice_index left k) (slice_index right k) }
+    ensures { (k : ℕ) → k < 8 → IsWord width.bits (slice_index left k)
+        → IsWord width.bits (slice_index right k) → slice_index result k
+        ≡ applied symbol width.bits (slice_index left k) (slice_index right k) }
 {
     match symbol {
         Symbol::Add => sum(left, right, width),
@@ -216,8 +233,9 @@ pub(crate) fn operated(symbol: Symbol, left: u64x8, right: u64x8, width: Width) 
 /// Two words of the width compared as two's complement.
 #[inline(always)]
 pub(crate) fn compared(symbol: Symbol, left: u64x8, right: u64x8, width: Width) -> u64x8
-    ensures { (k : ℕ) → k < 8 → IsWord width.bits (slice_index left k) → IsWord width.bits (slice_index right k)
-        → slice_index result k ≡ bit (signed_test symbol width.bits (slice_index left k) (slice_index right k)) }
+    ensures { (k : ℕ) → k < 8 → IsWord width.bits (slice_index left k)
+        → IsWord width.bits (slice_index right k) → slice_index result k
+        ≡ bit (signed_test symbol width.bits (slice_index left k) (slice_index right k)) }
 {
     let (a, b) = (raised(left, width), raised(right, width));
     match symbol {
@@ -232,8 +250,8 @@ pub(crate) fn compared(symbol: Symbol, left: u64x8, right: u64x8, width: Width) 
 /// The first word where the condition is 1, else the second.
 #[inline(always)]
 pub(crate) fn chosen(condition: u64x8, first: u64x8, second: u64x8) -> u64x8
-    ensures { (k : ℕ) → k < 8 → IsWord 1 (slice_index condition k)
-        → slice_index result k ≡ chosen_word (slice_index condition k) (slice_index first k) (slice_index second k) }
+    ensures { (k : ℕ) → k < 8 → IsWord 1 (slice_index condition k) → slice_index result k
+        ≡ chosen_word (slice_index condition k) (slice_index first k) (slice_index second k) }
 {
     second + where_set(condition, first - second)
 }
@@ -242,7 +260,8 @@ pub(crate) fn chosen(condition: u64x8, first: u64x8, second: u64x8) -> u64x8
 #[inline(always)]
 pub(crate) fn sliced(words: u64x8, from: u32, width: Width) -> u64x8
     requires { from < 64 }
-    ensures { (k : ℕ) → k < 8 → slice_index result k ≡ slice_index words k / 2 ^ from % 2 ^ width.bits }
+    ensures { (k : ℕ) → k < 8
+        → slice_index result k ≡ slice_index words k / 2 ^ from % 2 ^ width.bits }
 {
     cut(words >> u64x8::splat(u64::from(from)), width)
 }
@@ -263,7 +282,8 @@ fn ones_above(width: Width, by: u32) -> u64
 #[inline(always)]
 pub(crate) fn extended(words: u64x8, width: Width, by: u32) -> u64x8
     requires { width.bits + by ≤ 64 }
-    ensures { (k : ℕ) → k < 8 → IsWord width.bits (slice_index words k) → slice_index result k ≡ widened width.bits by (slice_index words k) }
+    ensures { (k : ℕ) → k < 8 → IsWord width.bits (slice_index words k)
+        → slice_index result k ≡ widened width.bits by (slice_index words k) }
 {
     let highest = words >> u64x8::splat(u64::from(width.bits - 1));
     words + where_set(highest, u64x8::splat(ones_above(width, by)))

@@ -33,7 +33,8 @@ impl<'a> Lanes<'a> {
     pub fn new(alloc: Global, of: &'a Module) -> Result<Lanes<'a>, Memory>
         requires { IsSound of.now }
         ensures of { IfOk result (λ lanes. lanes.of ≡ of.now) }
-        ensures words { IfOk result (λ lanes. (k : ℕ) → k < 8 → lane k lanes.words ≡ replicate (length (all_names of.now)) 0) }
+        ensures words { IfOk result (λ lanes. (k : ℕ)
+            → k < 8 → lane k lanes.words ≡ replicate (length (all_names of.now)) 0) }
         ensures flag { IfOk result (λ lanes. lanes.settled ≡ false) }
     {
         let engine = LaneEngine::new(alloc, of)?;
@@ -43,13 +44,17 @@ impl<'a> Lanes<'a> {
     /// Presents a value in each lane at an input port, by its place in the module's `inputs`.
     pub fn set(&mut self, port: u32, values: [u64; 8])
         requires port { port < length self.old.of.inputs }
-        requires fits { ForSome (slice_get self.old.of.inputs port) (λ p. All (IsWord p.width.bits) values) }
+        requires fits { ForSome (slice_get self.old.of.inputs port) (λ p.
+            All (IsWord p.width.bits) values) }
         ensures of { self.new.of ≡ self.old.of }
-        ensures words { (k : ℕ) → k < 8 → lane k self.new.words ≡ slice_set (lane k self.old.words) port (slice_index values k) }
+        ensures words { (k : ℕ) → k < 8 → lane k self.new.words
+            ≡ slice_set (lane k self.old.words) port (slice_index values k) }
         ensures flag { self.new.settled ≡ false }
-        ensures port { IfSome (slice_get self.old.of.inputs port) (λ p. (k : ℕ) → k < 8 → carried k self.new p.name ≡ slice_index values k) }
-        ensures others { IfSome (slice_get self.old.of.inputs port) (λ p. (k : ℕ) → k < 8 → (name : Items ℕ) → name ≢ p.name
-            → carried k self.new name ≡ carried k self.old name) }
+        ensures port { IfSome (slice_get self.old.of.inputs port) (λ p. (k : ℕ)
+            → k < 8 → carried k self.new p.name ≡ slice_index values k) }
+        ensures others { IfSome (slice_get self.old.of.inputs port) (λ p. (k : ℕ)
+            → k < 8 → (name : Items ℕ)
+            → name ≢ p.name → carried k self.new name ≡ carried k self.old name) }
     {
         self.engine.set(port, u64x8::from_array(values));
     }
@@ -59,7 +64,8 @@ impl<'a> Lanes<'a> {
     pub fn settle(&mut self)
         ensures of { self.new.of ≡ self.old.of }
         ensures settled { (k : ℕ) → k < 8 → Settled self.new.of (carried k self.new) }
-        ensures given { (k : ℕ) → k < 8 → Agree (given_names self.new.of) (carried k self.old) (carried k self.new) }
+        ensures given { (k : ℕ) → k < 8
+            → Agree (given_names self.new.of) (carried k self.old) (carried k self.new) }
         ensures flag { IsTrue self.new.settled }
     {
         self.engine.settle();
@@ -69,8 +75,10 @@ impl<'a> Lanes<'a> {
     pub fn value(&self, wire: u32) -> [u64; 8]
         requires place { wire < length self.now.of.drives }
         requires settled { IsTrue self.now.settled }
-        ensures word { (k : ℕ) → k < 8 → (d : _) → slice_index result k ≡ carried k self.now (slice_index_or self.now.of.drives wire d).target }
-        ensures fits { (k : ℕ) → k < 8 → (d : _) → IsWord (width_of self.now.of (slice_index_or self.now.of.drives wire d).target) (slice_index result k) }
+        ensures word { (k : ℕ) → k < 8 → (d : _) → slice_index result k
+            ≡ carried k self.now (slice_index_or self.now.of.drives wire d).target }
+        ensures fits { (k : ℕ) → k < 8 → (d : _) → IsWord (width_of self.now.of
+            (slice_index_or self.now.of.drives wire d).target) (slice_index result k) }
         ensures settled { (k : ℕ) → k < 8 → Settled self.now.of (carried k self.now) }
     {
         self.engine.value(wire)
@@ -80,8 +88,10 @@ impl<'a> Lanes<'a> {
     pub fn tick(&mut self)
         requires { IsTrue self.old.settled }
         ensures of { self.new.of ≡ self.old.of }
-        ensures edge { (k : ℕ) → k < 8 → Edge self.new.of false (carried k self.old) (carried k self.new) }
-        ensures ports { (k : ℕ) → k < 8 → Agree (names_of self.new.of.inputs) (carried k self.old) (carried k self.new) }
+        ensures edge { (k : ℕ) → k < 8
+            → Edge self.new.of false (carried k self.old) (carried k self.new) }
+        ensures ports { (k : ℕ) → k < 8
+            → Agree (names_of self.new.of.inputs) (carried k self.old) (carried k self.new) }
         ensures flag { self.new.settled ≡ false }
     {
         self.engine.tick();
@@ -90,8 +100,10 @@ impl<'a> Lanes<'a> {
     /// One edge with `rst` 1 in each lane: all registers take their literals.
     pub fn reset(&mut self)
         ensures of { self.new.of ≡ self.old.of }
-        ensures edge { (k : ℕ) → k < 8 → Edge self.new.of true (carried k self.old) (carried k self.new) }
-        ensures ports { (k : ℕ) → k < 8 → Agree (names_of self.new.of.inputs) (carried k self.old) (carried k self.new) }
+        ensures edge { (k : ℕ) → k < 8
+            → Edge self.new.of true (carried k self.old) (carried k self.new) }
+        ensures ports { (k : ℕ) → k < 8
+            → Agree (names_of self.new.of.inputs) (carried k self.old) (carried k self.new) }
         ensures flag { self.new.settled ≡ false }
     {
         self.engine.reset();

@@ -31,7 +31,8 @@ impl Moves {
     /// later one.
     pub(crate) fn new(alloc: Global, circuit: &Circuit<'_>) -> Result<Moves, Memory>
         requires { IsSound circuit.now }
-        ensures { IfOk result (λ moves. IsTrue moves.are_ordered → AreOrdered circuit.now moves.flip_flops.items moves.transfers.items) }
+        ensures { IfOk result (λ moves. IsTrue moves.are_ordered
+            → AreOrdered circuit.now moves.flip_flops.items moves.transfers.items) }
     {
         let backward = backward(alloc, circuit)?;
         let moves = Moves::by(alloc, circuit, &backward)?;
@@ -46,7 +47,8 @@ impl Moves {
     // Those in this order, where each may take its word at once in it.
     fn by(alloc: Global, circuit: &Circuit<'_>, order: &[usize]) -> Result<Moves, Memory>
         requires { IsSound circuit.now }
-        ensures { IfOk result (λ moves. IsTrue moves.are_ordered → AreOrdered circuit.now moves.flip_flops.items moves.transfers.items) }
+        ensures { IfOk result (λ moves. IsTrue moves.are_ordered
+            → AreOrdered circuit.now moves.flip_flops.items moves.transfers.items) }
     {
         let mut stored = vec![in alloc; false; circuit.size()]?;
         if !is_order(circuit, order, &mut stored) {

@@ -32,7 +32,8 @@ pub(crate) fn settle(circuit: &Circuit<'_>, drives: &[Formed], words: &mut [u64x
     requires zeros { (k : ℕ) → k < 8 → AreZero circuit.now (lane k words.old) }
     requires formed { AreFormed circuit.now drives.now }
     ensures settled { (k : ℕ) → k < 8 → Settled circuit.now (named circuit.now (lane k words.new)) }
-    ensures given { (k : ℕ) → k < 8 → Agree (given_names circuit.now) (named circuit.now (lane k words.old)) (named circuit.now (lane k words.new)) }
+    ensures given { (k : ℕ) → k < 8 → Agree (given_names circuit.now) (named circuit.now
+        (lane k words.old)) (named circuit.now (lane k words.new)) }
     ensures fit { (k : ℕ) → k < 8 → AllFit circuit.now (lane k words.new) }
 {
     for drive in drives {
@@ -59,8 +60,10 @@ fn compute(
     ensures due { length due.new ≡ length due.old }
     ensures fit { (k : ℕ) → k < 8 → AllFit circuit.now (lane k words.new) }
     ensures held { (k : ℕ) → k < 8 → AreHeld circuit.now (lane k words.new) stale.new due.new }
-    ensures given { (k : ℕ) → k < 8 → Agree (given_names circuit.now) (named circuit.now (lane k words.old)) (named circuit.now (lane k words.new)) }
-    ensures clear { ((i : ℕ) → i < drive → IsClear stale.old i) → (i : ℕ) → i < drive + 1 → IsClear stale.new i }
+    ensures given { (k : ℕ) → k < 8 → Agree (given_names circuit.now) (named circuit.now
+        (lane k words.old)) (named circuit.now (lane k words.new)) }
+    ensures clear { ((i : ℕ) → i < drive → IsClear stale.old i)
+        → (i : ℕ) → i < drive + 1 → IsClear stale.new i }
 {
     let assignment = &circuit.assignments()[drive];
     let word = word_given(&assignment.gate, words);
@@ -84,7 +87,8 @@ pub(crate) fn settle_marked(
     ensures stale { length stale.new ≡ length stale.old }
     ensures due { length due.new ≡ length due.old }
     ensures settled { (k : ℕ) → k < 8 → Settled circuit.now (named circuit.now (lane k words.new)) }
-    ensures given { (k : ℕ) → k < 8 → Agree (given_names circuit.now) (named circuit.now (lane k words.old)) (named circuit.now (lane k words.new)) }
+    ensures given { (k : ℕ) → k < 8 → Agree (given_names circuit.now) (named circuit.now
+        (lane k words.old)) (named circuit.now (lane k words.new)) }
     ensures fit { (k : ℕ) → k < 8 → AllFit circuit.now (lane k words.new) }
     ensures held { (k : ℕ) → k < 8 → AreHeld circuit.now (lane k words.new) stale.new due.new }
 {
@@ -112,11 +116,14 @@ fn write(
     requires place { place < length words.old }
     requires stale { length stale.old ≡ length circuit.now.drives }
     requires due { length due.old ≡ length circuit.now.steps }
-    ensures words { (k : ℕ) → k < 8 → lane k words.new ≡ slice_set (lane k words.old) place (slice_index word k) }
+    ensures words { (k : ℕ) → k < 8
+        → lane k words.new ≡ slice_set (lane k words.old) place (slice_index word k) }
     ensures stale { length stale.new ≡ length stale.old }
     ensures due { length due.new ≡ length due.old }
-    ensures same { (k : ℕ) → k < 8 → ReadTheSame circuit.now (lane k words.old) (lane k words.new) stale.old stale.new due.old due.new }
-    ensures ahead { (name : Items ℕ) → slice_get (all_names circuit.now) place ≡ Some name → AreAhead circuit.now name stale.old stale.new }
+    ensures same { (k : ℕ) → k < 8 → ReadTheSame circuit.now
+        (lane k words.old) (lane k words.new) stale.old stale.new due.old due.new }
+    ensures ahead { (name : Items ℕ) → slice_get (all_names circuit.now) place ≡ Some name
+        → AreAhead circuit.now name stale.old stale.new }
 {
     if differ(words[place], word) {
         words[place] = word;
@@ -139,10 +146,12 @@ pub(crate) fn present(
     requires place { place < length words.old }
     requires stale { length stale.old ≡ length circuit.now.drives }
     requires due { length due.old ≡ length circuit.now.steps }
-    ensures words { (k : ℕ) → k < 8 → lane k words.new ≡ slice_set (lane k words.old) place (slice_index word k) }
+    ensures words { (k : ℕ) → k < 8
+        → lane k words.new ≡ slice_set (lane k words.old) place (slice_index word k) }
     ensures stale { length stale.new ≡ length stale.old }
     ensures due { length due.new ≡ length due.old }
-    ensures same { dense ≡ false → (k : ℕ) → k < 8 → ReadTheSame circuit.now (lane k words.old) (lane k words.new) stale.old stale.new due.old due.new }
+    ensures same { dense ≡ false → (k : ℕ) → k < 8 → ReadTheSame circuit.now
+        (lane k words.old) (lane k words.new) stale.old stale.new due.old due.new }
 {
     if dense {
         words[place] = word;
@@ -169,8 +178,9 @@ fn take_due(
     ensures count { result ≤ length circuit.now.steps }
     ensures due { length due.new ≡ length due.old }
     ensures within { (j : ℕ) → j < result → slice_index taken.new j < length circuit.now.steps }
-    ensures taken { (k : ℕ) → k < 8 → (d : _)
-        → AreDue circuit.now (named circuit.now (lane k words.now)) (λ i. word_of (named circuit.now (lane k words.now)) (slice_index_or circuit.now.steps i d).next) taken.new (lane k next.new) result }
+    ensures taken { (k : ℕ) → k < 8 → (d : _) → AreDue circuit.now (named circuit.now
+        (lane k words.now)) (λ i. word_of (named circuit.now (lane k words.now))
+        (slice_index_or circuit.now.steps i d).next) taken.new (lane k next.new) result }
 {
     let flip_flops = circuit.flip_flops();
     let mut count = 0;
@@ -202,16 +212,19 @@ fn store_taken(
     requires taken { count ≤ length taken.now }
     requires next { count ≤ length next.now }
     requires within { (j : ℕ) → j < count → slice_index taken.now j < length circuit.now.steps }
-    requires fitting { (k : ℕ) → k < 8 → (j : ℕ) (d : _) → j < count
-        → IsWord (width_of circuit.now (slice_index_or circuit.now.steps (slice_index taken.now j) d).register) (slice_index (lane k next.now) j) }
+    requires fitting { (k : ℕ) → k < 8 → (j : ℕ) (d : _)
+        → j < count → IsWord (width_of circuit.now (slice_index_or circuit.now.steps
+        (slice_index taken.now j) d).register) (slice_index (lane k next.now) j) }
     requires fit { (k : ℕ) → k < 8 → AllFit circuit.now (lane k words.old) }
     ensures stale { length stale.new ≡ length stale.old }
     ensures due { length due.new ≡ length due.old }
     ensures fit { (k : ℕ) → k < 8 → AllFit circuit.now (lane k words.new) }
-    ensures same { (k : ℕ) → k < 8 → ReadTheSame circuit.now (lane k words.old) (lane k words.new) stale.old stale.new due.old due.new }
+    ensures same { (k : ℕ) → k < 8 → ReadTheSame circuit.now
+        (lane k words.old) (lane k words.new) stale.old stale.new due.old due.new }
     ensures registers { (k : ℕ) → k < 8 → (word : ℕ → ℕ) → AreDue circuit.now (named circuit.now (lane k words.old)) word taken.now (lane k next.now) count
         → (i : ℕ) (d : _) → i < length circuit.now.steps → named circuit.now (lane k words.new) (slice_index_or circuit.now.steps i d).register ≡ word i }
-    ensures others { (k : ℕ) → k < 8 → (name : Items ℕ) → (Contains (registers_of circuit.now.steps) name → ⊥)
+    ensures others { (k : ℕ) → k < 8
+        → (name : Items ℕ) → (Contains (registers_of circuit.now.steps) name → ⊥)
         → named circuit.now (lane k words.new) name ≡ named circuit.now (lane k words.old) name }
 {
     let flip_flops = circuit.flip_flops();
@@ -241,10 +254,13 @@ pub(crate) fn tick_marked(
     ensures stale { length stale.new ≡ length stale.old }
     ensures due { length due.new ≡ length due.old }
     ensures fit { (k : ℕ) → k < 8 → AllFit circuit.now (lane k words.new) }
-    ensures edge { (k : ℕ) → k < 8 → Edge circuit.now false (named circuit.now (lane k words.old)) (named circuit.now (lane k words.new)) }
-    ensures ports { (k : ℕ) → k < 8 → Agree (names_of circuit.now.inputs) (named circuit.now (lane k words.old)) (named circuit.now (lane k words.new)) }
+    ensures edge { (k : ℕ) → k < 8 → Edge circuit.now false (named circuit.now
+        (lane k words.old)) (named circuit.now (lane k words.new)) }
+    ensures ports { (k : ℕ) → k < 8 → Agree (names_of circuit.now.inputs) (named circuit.now
+        (lane k words.old)) (named circuit.now (lane k words.new)) }
     ensures held { (k : ℕ) → k < 8 → AreHeld circuit.now (lane k words.new) stale.new due.new }
-    ensures others { (k : ℕ) → k < 8 → (name : Items ℕ) → (Contains (registers_of circuit.now.steps) name → ⊥)
+    ensures others { (k : ℕ) → k < 8
+        → (name : Items ℕ) → (Contains (registers_of circuit.now.steps) name → ⊥)
         → named circuit.now (lane k words.new) name ≡ named circuit.now (lane k words.old) name }
 {
     let count = take_due(circuit, words, due, taken, next);
@@ -256,7 +272,8 @@ fn reset_words(circuit: &Circuit<'_>, taken: &mut [usize], next: &mut [u64x8])
     requires taken { length taken.old ≡ length circuit.now.steps }
     requires next { length next.old ≡ length circuit.now.steps }
     ensures steps { (j : ℕ) → j < length circuit.now.steps → slice_index taken.new j ≡ j }
-    ensures words { (k : ℕ) → k < 8 → (old : Words) → AreTaken circuit.now true old (length circuit.now.steps) (lane k next.new) }
+    ensures words { (k : ℕ) → k < 8 → (old : Words)
+        → AreTaken circuit.now true old (length circuit.now.steps) (lane k next.new) }
 {
     for (i, flip_flop) in circuit.flip_flops().iter().enumerate() {
         next[i] = constant(flip_flop.reset);
@@ -283,10 +300,14 @@ pub(crate) fn reset(
     ensures stale { length stale.new ≡ length stale.old }
     ensures due { length due.new ≡ length due.old }
     ensures fit { (k : ℕ) → k < 8 → AllFit circuit.now (lane k words.new) }
-    ensures edge { (k : ℕ) → k < 8 → Edge circuit.now true (named circuit.now (lane k words.old)) (named circuit.now (lane k words.new)) }
-    ensures ports { (k : ℕ) → k < 8 → Agree (names_of circuit.now.inputs) (named circuit.now (lane k words.old)) (named circuit.now (lane k words.new)) }
-    ensures held { (k : ℕ) → k < 8 → AreHeld circuit.now (lane k words.old) stale.old due.old → AreHeld circuit.now (lane k words.new) stale.new due.new }
-    ensures others { (k : ℕ) → k < 8 → (name : Items ℕ) → (Contains (registers_of circuit.now.steps) name → ⊥)
+    ensures edge { (k : ℕ) → k < 8 → Edge circuit.now true (named circuit.now
+        (lane k words.old)) (named circuit.now (lane k words.new)) }
+    ensures ports { (k : ℕ) → k < 8 → Agree (names_of circuit.now.inputs) (named circuit.now
+        (lane k words.old)) (named circuit.now (lane k words.new)) }
+    ensures held { (k : ℕ) → k < 8 → AreHeld circuit.now (lane k words.old) stale.old due.old
+        → AreHeld circuit.now (lane k words.new) stale.new due.new }
+    ensures others { (k : ℕ) → k < 8
+        → (name : Items ℕ) → (Contains (registers_of circuit.now.steps) name → ⊥)
         → named circuit.now (lane k words.new) name ≡ named circuit.now (lane k words.old) name }
 {
     reset_words(circuit, taken, next);
@@ -299,7 +320,8 @@ pub(crate) fn next_words(circuit: &Circuit<'_>, words: &[u64x8], next: &mut [u64
     requires sound { IsSound circuit.now }
     requires size { length words.now ≡ length (all_names circuit.now) }
     requires next { length next.old ≡ length circuit.now.steps }
-    ensures { (k : ℕ) → k < 8 → AreTaken circuit.now false (named circuit.now (lane k words.now)) (length circuit.now.steps) (lane k next.new) }
+    ensures { (k : ℕ) → k < 8 → AreTaken circuit.now false (named circuit.now
+        (lane k words.now)) (length circuit.now.steps) (lane k next.new) }
 {
     for (i, flip_flop) in circuit.flip_flops().iter().enumerate() {
         next[i] = word_read(flip_flop.next, words);
@@ -327,11 +349,14 @@ fn store(circuit: &Circuit<'_>, next: &[u64x8], words: &mut [u64x8])
     requires fit { (k : ℕ) → k < 8 → AllFit circuit.now (lane k words.old) }
     requires next { length next.now ≡ length circuit.now.steps }
     requires fitting { (k : ℕ) → k < 8 → FitRegisters circuit.now (lane k next.now) }
-    ensures registers { (k : ℕ) → k < 8 → (i : ℕ) → i < length circuit.now.steps
-        → (d : _) → named circuit.now (lane k words.new) (slice_index_or circuit.now.steps i d).register ≡ slice_index (lane k next.now) i }
-    ensures ports { (k : ℕ) → k < 8 → Agree (names_of circuit.now.inputs) (named circuit.now (lane k words.old)) (named circuit.now (lane k words.new)) }
+    ensures registers { (k : ℕ) → k < 8 → (i : ℕ) → i < length circuit.now.steps → (d : _)
+        → named circuit.now (lane k words.new) (slice_index_or circuit.now.steps i d).register
+        ≡ slice_index (lane k next.now) i }
+    ensures ports { (k : ℕ) → k < 8 → Agree (names_of circuit.now.inputs) (named circuit.now
+        (lane k words.old)) (named circuit.now (lane k words.new)) }
     ensures fit { (k : ℕ) → k < 8 → AllFit circuit.now (lane k words.new) }
-    ensures others { (k : ℕ) → k < 8 → (name : Items ℕ) → (Contains (registers_of circuit.now.steps) name → ⊥)
+    ensures others { (k : ℕ) → k < 8
+        → (name : Items ℕ) → (Contains (registers_of circuit.now.steps) name → ⊥)
         → named circuit.now (lane k words.new) name ≡ named circuit.now (lane k words.old) name }
 {
     for (i, flip_flop) in circuit.flip_flops().iter().enumerate() {
@@ -351,8 +376,8 @@ fn move_first(
     requires fit { (k : ℕ) → k < 8 → AllFit circuit.now (lane k words.old) }
     requires moves { AreMoves circuit.now moves.now }
     requires transfers { AreTransfers moves.now transfers.now }
-    ensures { (are : AreMoves circuit.now moves.now) (k : ℕ) → k < 8
-        → HaveMoved circuit.now are.order (lane k words.old) (lane k words.new) (length transfers.now) }
+    ensures { (are : AreMoves circuit.now moves.now) (k : ℕ) → k < 8 → HaveMoved
+        circuit.now are.order (lane k words.old) (lane k words.new) (length transfers.now) }
 {
     for transfer in transfers {
         words[transfer.register] = word_at(words, transfer.source);
@@ -365,8 +390,9 @@ fn move_others(circuit: &Circuit<'_>, moves: &[FlipFlop], from: usize, words: &m
     requires size { length words.old ≡ length (all_names circuit.now) }
     requires moves { AreMoves circuit.now moves.now }
     requires from { from ≤ length moves.now }
-    ensures { (are : AreMoves circuit.now moves.now) (k : ℕ) → k < 8 → (before : Items ℕ)
-        → HaveMoved circuit.now are.order before (lane k words.old) from → HaveMoved circuit.now are.order before (lane k words.new) (length moves.now) }
+    ensures { (are : AreMoves circuit.now moves.now) (k : ℕ) → k < 8
+        → (before : Items ℕ) → HaveMoved circuit.now are.order before (lane k words.old) from
+        → HaveMoved circuit.now are.order before (lane k words.new) (length moves.now) }
 {
     for i in from..moves.len() {
         let flip_flop = moves[i];
@@ -380,10 +406,13 @@ fn move_all(circuit: &Circuit<'_>, moves: &Moves, words: &mut [u64x8])
     requires size { length words.old ≡ length (all_names circuit.now) }
     requires fit { (k : ℕ) → k < 8 → AllFit circuit.now (lane k words.old) }
     requires moves { AreOrdered circuit.now moves.now.flip_flops.items moves.now.transfers.items }
-    ensures edge { (k : ℕ) → k < 8 → Edge circuit.now false (named circuit.now (lane k words.old)) (named circuit.now (lane k words.new)) }
-    ensures ports { (k : ℕ) → k < 8 → Agree (names_of circuit.now.inputs) (named circuit.now (lane k words.old)) (named circuit.now (lane k words.new)) }
+    ensures edge { (k : ℕ) → k < 8 → Edge circuit.now false (named circuit.now
+        (lane k words.old)) (named circuit.now (lane k words.new)) }
+    ensures ports { (k : ℕ) → k < 8 → Agree (names_of circuit.now.inputs) (named circuit.now
+        (lane k words.old)) (named circuit.now (lane k words.new)) }
     ensures fit { (k : ℕ) → k < 8 → AllFit circuit.now (lane k words.new) }
-    ensures others { (k : ℕ) → k < 8 → (name : Items ℕ) → (Contains (registers_of circuit.now.steps) name → ⊥)
+    ensures others { (k : ℕ) → k < 8
+        → (name : Items ℕ) → (Contains (registers_of circuit.now.steps) name → ⊥)
         → named circuit.now (lane k words.new) name ≡ named circuit.now (lane k words.old) name }
 {
     let flip_flops = moves.flip_flops.as_slice();
@@ -397,10 +426,13 @@ fn tick_together(circuit: &Circuit<'_>, words: &mut [u64x8], next: &mut [u64x8])
     requires size { length words.old ≡ length (all_names circuit.now) }
     requires next { length next.old ≡ length circuit.now.steps }
     requires fit { (k : ℕ) → k < 8 → AllFit circuit.now (lane k words.old) }
-    ensures edge { (k : ℕ) → k < 8 → Edge circuit.now false (named circuit.now (lane k words.old)) (named circuit.now (lane k words.new)) }
-    ensures ports { (k : ℕ) → k < 8 → Agree (names_of circuit.now.inputs) (named circuit.now (lane k words.old)) (named circuit.now (lane k words.new)) }
+    ensures edge { (k : ℕ) → k < 8 → Edge circuit.now false (named circuit.now
+        (lane k words.old)) (named circuit.now (lane k words.new)) }
+    ensures ports { (k : ℕ) → k < 8 → Agree (names_of circuit.now.inputs) (named circuit.now
+        (lane k words.old)) (named circuit.now (lane k words.new)) }
     ensures fit { (k : ℕ) → k < 8 → AllFit circuit.now (lane k words.new) }
-    ensures others { (k : ℕ) → k < 8 → (name : Items ℕ) → (Contains (registers_of circuit.now.steps) name → ⊥)
+    ensures others { (k : ℕ) → k < 8
+        → (name : Items ℕ) → (Contains (registers_of circuit.now.steps) name → ⊥)
         → named circuit.now (lane k words.new) name ≡ named circuit.now (lane k words.old) name }
 {
     next_words(circuit, words, next);
@@ -413,11 +445,15 @@ pub(crate) fn tick(circuit: &Circuit<'_>, moves: &Moves, words: &mut [u64x8], ne
     requires size { length words.old ≡ length (all_names circuit.now) }
     requires next { length next.old ≡ length circuit.now.steps }
     requires fit { (k : ℕ) → k < 8 → AllFit circuit.now (lane k words.old) }
-    requires moves { IsTrue moves.now.are_ordered → AreOrdered circuit.now moves.now.flip_flops.items moves.now.transfers.items }
-    ensures edge { (k : ℕ) → k < 8 → Edge circuit.now false (named circuit.now (lane k words.old)) (named circuit.now (lane k words.new)) }
-    ensures ports { (k : ℕ) → k < 8 → Agree (names_of circuit.now.inputs) (named circuit.now (lane k words.old)) (named circuit.now (lane k words.new)) }
+    requires moves { IsTrue moves.now.are_ordered
+        → AreOrdered circuit.now moves.now.flip_flops.items moves.now.transfers.items }
+    ensures edge { (k : ℕ) → k < 8 → Edge circuit.now false (named circuit.now
+        (lane k words.old)) (named circuit.now (lane k words.new)) }
+    ensures ports { (k : ℕ) → k < 8 → Agree (names_of circuit.now.inputs) (named circuit.now
+        (lane k words.old)) (named circuit.now (lane k words.new)) }
     ensures fit { (k : ℕ) → k < 8 → AllFit circuit.now (lane k words.new) }
-    ensures others { (k : ℕ) → k < 8 → (name : Items ℕ) → (Contains (registers_of circuit.now.steps) name → ⊥)
+    ensures others { (k : ℕ) → k < 8
+        → (name : Items ℕ) → (Contains (registers_of circuit.now.steps) name → ⊥)
         → named circuit.now (lane k words.new) name ≡ named circuit.now (lane k words.old) name }
 {
     if moves.are_ordered {

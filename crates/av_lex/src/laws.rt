@@ -15,8 +15,8 @@ pub fn one_token_list()
 pub fn tokens_or_fault()
     ensures either { (bytes : Items ℕ) → ((tokens : Items Spelled) × IsText start bytes tokens)
         ⊎ ((fault : LexFault) × IsFault start bytes fault) }
-    ensures not_both { (bytes : Items ℕ) (tokens : Items Spelled) (fault : LexFault) → IsText start bytes tokens
-        → IsFault start bytes fault → ⊥ }
+    ensures not_both { (bytes : Items ℕ) (tokens : Items Spelled) (fault : LexFault)
+        → IsText start bytes tokens → IsFault start bytes fault → ⊥ }
     ensures one_fault { (bytes : Items ℕ) (some other : LexFault) → IsFault start bytes some
         → IsFault start bytes other → some ≡ other }
 {}

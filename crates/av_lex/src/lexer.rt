@@ -53,12 +53,16 @@ pub fn lex<'a>(alloc: Global, bytes: &'a [u8]) -> Result<List<Token<'a>>, LexFau
     ensures slices { IfOk result (λ tokens. LieInOrder start bytes.now (views tokens)) }
 
     // What is spelled so is read, unless memory runs out.
-    ensures only { (tokens : Items Spelled) → IsText start bytes.now tokens → Gives result (Ok tokens) }
+    ensures only { (tokens : Items Spelled)
+        → IsText start bytes.now tokens → Gives result (Ok tokens) }
 
     // Each fault is the text's first one, and a text that has one is refused for it.
-    ensures bad_byte { (p : Place) → result ≡ Err (LexFault.BadByte p) → IsFault start bytes.now (LexFault.BadByte p) }
-    ensures number { (p : Place) → result ≡ Err (LexFault.Number p) → IsFault start bytes.now (LexFault.Number p) }
-    ensures refused { (fault : LexFault) → IsFault start bytes.now fault → Gives result (Err fault) }
+    ensures bad_byte { (p : Place) → result ≡ Err (LexFault.BadByte p)
+        → IsFault start bytes.now (LexFault.BadByte p) }
+    ensures number { (p : Place) → result ≡ Err (LexFault.Number p)
+        → IsFault start bytes.now (LexFault.Number p) }
+    ensures refused { (fault : LexFault)
+        → IsFault start bytes.now fault → Gives result (Err fault) }
 {
     tokens(alloc, bytes)
 }

@@ -44,7 +44,9 @@ fn entry(names: &[Name], terms: &[Term], place: usize) -> i128
 fn entry_between(names: &[Name], left: &[Term], right: &[Term], place: usize) -> i128
     requires left { AreShort left.now }
     requires right { AreShort right.now }
-    ensures { result ≡ slice_index_or (map (λ name. rows.coefficient left.now name -ℤ rows.coefficient right.now name) names.now) place (pos 0) }
+    ensures { result ≡ slice_index_or
+        (map (λ name. rows.coefficient left.now name -ℤ rows.coefficient right.now name) names.now)
+        place (pos 0) }
 {
     if place < names.len() {
         coefficient_between(left, right, &names[place])
@@ -74,8 +76,10 @@ fn form(sizes: &NameMap<'_, i64>, names: &[Name], index: &IndexExpr) -> Form
 fn coefficients_between(names: &[Name], left: &[Term], right: &[Term]) -> [i64; 4]
     requires left { AreShort left.now }
     requires right { AreShort right.now }
-    requires fits { AtMost 1024 (forms.filled (map (λ name. rows.coefficient left.now name -ℤ rows.coefficient right.now name) names.now)) }
-    ensures { result ≡ forms.filled (map (λ name. rows.coefficient left.now name -ℤ rows.coefficient right.now name) names.now) }
+    requires fits { AtMost 1024 (forms.filled (map
+        (λ name. rows.coefficient left.now name -ℤ rows.coefficient right.now name) names.now)) }
+    ensures { result ≡ forms.filled (map
+        (λ name. rows.coefficient left.now name -ℤ rows.coefficient right.now name) names.now) }
 {
     let first = small(entry_between(names, left, right, 0));
     let second = small(entry_between(names, left, right, 1));
@@ -96,8 +100,10 @@ fn small_between(
     requires right { AreShort right.now }
     requires gap { unsigned_abs gap ≤ 1 }
     requires sizes { HasSmallValues (sizes_in sizes.now) }
-    requires fits { unsigned_abs (rows.constant (sizes_in sizes.now) names.now left.now -ℤ rows.constant (sizes_in sizes.now) names.now right.now -ℤ gap) ≤ 2 ^ 20 }
-    ensures { result ≡ rows.constant (sizes_in sizes.now) names.now left.now -ℤ rows.constant (sizes_in sizes.now) names.now right.now -ℤ gap }
+    requires fits { unsigned_abs (rows.constant (sizes_in sizes.now) names.now
+        left.now -ℤ rows.constant (sizes_in sizes.now) names.now right.now -ℤ gap) ≤ 2 ^ 20 }
+    ensures { result ≡ rows.constant (sizes_in sizes.now) names.now left.now -ℤ rows.constant
+        (sizes_in sizes.now) names.now right.now -ℤ gap }
 {
     small(constant_between(sizes, names, left, right, gap))
 }
@@ -113,9 +119,11 @@ fn row(
     requires left { HasShortTerms left.now }
     requires right { HasShortTerms right.now }
     requires gap { unsigned_abs gap ≤ 1 }
-    requires fits { IsWithinLimits (form_of_row (rows.at_least (sizes_in sizes.now) names.now left.now right.now gap)) }
+    requires fits { IsWithinLimits
+        (form_of_row (rows.at_least (sizes_in sizes.now) names.now left.now right.now gap)) }
     requires sizes { HasSmallValues (sizes_in sizes.now) }
-    ensures { result ≡ form_of_row (rows.at_least (sizes_in sizes.now) names.now left.now right.now gap) }
+    ensures { result ≡ form_of_row
+        (rows.at_least (sizes_in sizes.now) names.now left.now right.now gap) }
 {
     let greater = left.terms.as_slice();
     let lesser = right.terms.as_slice();
@@ -129,9 +137,11 @@ fn row(
 fn strict_row(sizes: &NameMap<'_, i64>, names: &[Name], left: &IndexExpr, right: &IndexExpr) -> Form
     requires left { HasShortTerms left.now }
     requires right { HasShortTerms right.now }
-    requires fits { IsWithinLimits (form_of_row (rows.at_least (sizes_in sizes.now) names.now left.now right.now (pos 1))) }
+    requires fits { IsWithinLimits
+        (form_of_row (rows.at_least (sizes_in sizes.now) names.now left.now right.now (pos 1))) }
     requires sizes { HasSmallValues (sizes_in sizes.now) }
-    ensures { result ≡ form_of_row (rows.at_least (sizes_in sizes.now) names.now left.now right.now (pos 1)) }
+    ensures { result ≡ form_of_row
+        (rows.at_least (sizes_in sizes.now) names.now left.now right.now (pos 1)) }
 {
     row(sizes, names, left, right, 1)
 }
@@ -145,7 +155,8 @@ fn push_rows(
 ) -> Result<(), Memory>
     requires fits { FitsRows (sizes_in sizes.now) names.now constraint.now }
     requires sizes { HasSmallValues (sizes_in sizes.now) }
-    ensures { OnOk result (to.new ≡ to.old ++ map form_of_row (rows.compared (sizes_in sizes.now) names.now constraint.now.left constraint.now.relation constraint.now.right)) }
+    ensures { OnOk result (to.new ≡ to.old ++ map form_of_row (rows.compared (sizes_in sizes.now)
+        names.now constraint.now.left constraint.now.relation constraint.now.right)) }
 {
     let left = &constraint.left;
     let right = &constraint.right;
@@ -172,7 +183,10 @@ pub(crate) fn set(
 ) -> Result<Poly, Memory>
     requires fits { All (FitsRows (sizes_in sizes.now) names.now) constraints.now }
     requires sizes { HasSmallValues (sizes_in sizes.now) }
-    ensures { IfOk result (λ set. set ≡ record { dim = indices; rows = rows_over (sizes_in sizes.now) names.now constraints.now }) }
+    ensures { IfOk result (λ set. set ≡ record {
+      dim = indices;
+      rows = rows_over (sizes_in sizes.now) names.now constraints.now;
+    }) }
 {
     let mut rows = List::new(alloc);
     for constraint in constraints {
@@ -191,7 +205,8 @@ fn forms_over(
     requires few { length entries.now ≤ 4 }
     requires fits { All (FitsForm (sizes_in sizes.now) names.now) entries.now }
     requires sizes { HasSmallValues (sizes_in sizes.now) }
-    ensures { IfOk result (λ rows. rows ≡ map (form_of (sizes_in sizes.now) names.now) entries.now) }
+    ensures { IfOk result (λ rows.
+        rows ≡ map (form_of (sizes_in sizes.now) names.now) entries.now) }
 {
     let mut all = Vec::new(alloc);
     for index in entries {
@@ -270,7 +285,8 @@ pub(crate) fn read_map(
     requires few { context.indices ≤ 4 }
     requires fits { FitsAccess (sizes_in sizes.now) (seen context) at.now }
     requires sizes { HasSmallValues (sizes_in sizes.now) }
-    ensures { IfOk result (λ to. to ≡ forms.read_of (sizes_in sizes.now) (seen context.entry) at.now) }
+    ensures { IfOk result (λ to.
+        to ≡ forms.read_of (sizes_in sizes.now) (seen context.entry) at.now) }
 {
     match at {
         Access::Here => Ok(identity(context.indices)),

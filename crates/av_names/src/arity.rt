@@ -65,7 +65,9 @@ fn expression_arity(
     context: Context<'_>,
     expr: &Expr,
 ) -> Option<Place>
-    ensures { result ≡ rules.expression_arity (λ name. length (names_at (option_map (λ d. d.now) (lookup (bytes_eq name) table.now)))) (seen context.entry) (view expr.now) }
+    ensures { result ≡ rules.expression_arity
+        (λ name. length (names_at (option_map (λ d. d.now) (lookup (bytes_eq name) table.now))))
+        (seen context.entry) (view expr.now) }
 {
     match expr {
         Expr::Ref { name, at, place } => {
@@ -88,7 +90,8 @@ fn expression_arity(
 }
 
 fn equation_arity(table: &NameMap<'_, &Declaration>, equation: &Equation) -> Option<Place>
-    ensures { result ≡ rules.listed_arity equation.now.place (length (names_at (option_map (λ d. d.now) (lookup (bytes_eq equation.now.name) table.now)))) equation.now.indices }
+    ensures { result ≡ rules.listed_arity equation.now.place (length (names_at (option_map
+        (λ d. d.now) (lookup (bytes_eq equation.now.name) table.now)))) equation.now.indices }
 {
     match &equation.indices {
         None => None,
@@ -101,7 +104,9 @@ fn equation_arity(table: &NameMap<'_, &Declaration>, equation: &Equation) -> Opt
 
 /// The first part with another number of indices than must stand there.
 pub(crate) fn parts_arity(table: &NameMap<'_, &Declaration>, parts: &[Part<'_>]) -> Option<Place>
-    ensures { result ≡ first_place (λ p. rules.expression_arity (λ name. length (names_at (option_map (λ d. d.now) (lookup (bytes_eq name) table.now)))) (part p).context (part p).expression) parts.now }
+    ensures { result ≡ first_place (λ p. rules.expression_arity
+        (λ name. length (names_at (option_map (λ d. d.now) (lookup (bytes_eq name) table.now))))
+        (part p).context (part p).expression) parts.now }
 {
     let mut first = None;
     for part in parts {
@@ -116,7 +121,8 @@ pub(crate) fn equations_arity(
     table: &NameMap<'_, &Declaration>,
     equations: &[Equation],
 ) -> Option<Place>
-    ensures { result ≡ first_place (λ e. rules.listed_arity e.place (length (names_at (option_map (λ d. d.now) (lookup (bytes_eq e.name) table.now)))) e.indices) equations.now }
+    ensures { result ≡ first_place (λ e. rules.listed_arity e.place (length (names_at
+        (option_map (λ d. d.now) (lookup (bytes_eq e.name) table.now)))) e.indices) equations.now }
 {
     let mut first = None;
     for equation in equations {
@@ -133,7 +139,8 @@ pub(crate) fn arity<'a>(
     variables: &[&'a Declaration],
     parts: &[Part<'a>],
 ) -> Result<Option<Place>, Memory>
-    requires variables { map (λ d. d.now) variables.now ≡ domains.variables (view_system system.now) }
+    requires variables { map (λ d. d.now) variables.now
+        ≡ domains.variables (view_system system.now) }
     requires parts { map part parts.now ≡ list.parts (view_system system.now) }
     ensures { IfOk result (λ first. first ≡ rules.arity (view_system system.now)) }
 {

@@ -17,7 +17,8 @@ use std::alloc::Global;
 
 /// The first equation whose name is in the set.
 pub(crate) fn defines_one_of<'a>(set: &NameSet<'_>, equations: &'a [Equation]) -> Option<Found<'a>>
-    ensures { option_map found result ≡ option_map rules.equation_found (find (λ e. is_index set.now e.name) (equations_seen equations.now)) }
+    ensures { option_map found result ≡ option_map rules.equation_found
+        (find (λ e. is_index set.now e.name) (equations_seen equations.now)) }
 {
     for equation in equations {
         if is_among(set, &equation.name) {
@@ -35,7 +36,8 @@ pub(crate) fn without_equation<'a>(
     set: &NameSet<'_>,
     variables: &[&'a Declaration],
 ) -> Option<Found<'a>>
-    ensures { option_map found result ≡ option_map rules.declaration_found (find (λ d. not (is_index set.now d.name)) (map (λ d. d.now) variables.now)) }
+    ensures { option_map found result ≡ option_map rules.declaration_found
+        (find (λ d. not (is_index set.now d.name)) (map (λ d. d.now) variables.now)) }
 {
     for variable in variables {
         if !is_among(set, &variable.name) {
@@ -53,7 +55,8 @@ pub(crate) fn defines_input<'a>(
     alloc: Global,
     system: &'a System,
 ) -> Result<Option<Found<'a>>, Memory>
-    ensures { IfOk result (λ first. option_map found first ≡ rules.defines_input (view_system system.now)) }
+    ensures { IfOk result (λ first.
+        option_map found first ≡ rules.defines_input (view_system system.now)) }
 {
     let inputs = declared(alloc, system.inputs.as_slice())?;
     Ok(defines_one_of(&inputs, system.equations.as_slice()))
@@ -64,7 +67,8 @@ pub(crate) fn no_equation<'a>(
     alloc: Global,
     system: &'a System,
 ) -> Result<Option<Found<'a>>, Memory>
-    ensures { IfOk result (λ first. option_map found first ≡ rules.no_equation (view_system system.now)) }
+    ensures { IfOk result (λ first.
+        option_map found first ≡ rules.no_equation (view_system system.now)) }
 {
     let names = defined(alloc, system.equations.as_slice())?;
     computed_without(alloc, &names, system)
@@ -76,7 +80,8 @@ fn computed_without<'a>(
     names: &NameSet<'_>,
     system: &'a System,
 ) -> Result<Option<Found<'a>>, Memory>
-    ensures { IfOk result (λ first. option_map found first ≡ option_map rules.declaration_found (find (λ d. not (is_index names.now d.name)) (system.now.outputs ++ system.now.locals))) }
+    ensures { IfOk result (λ first. option_map found first ≡ option_map rules.declaration_found
+        (find (λ d. not (is_index names.now d.name)) (system.now.outputs ++ system.now.locals))) }
 {
     let computed = computed_variables(alloc, system)?;
     Ok(without_equation(names, computed.as_slice()))
@@ -109,7 +114,8 @@ pub(crate) fn second_equation<'a>(
     alloc: Global,
     equations: &'a [Equation],
 ) -> Result<Option<Found<'a>>, Memory>
-    ensures { IfOk result (λ first. option_map found first ≡ rules.second_equation [] (equations_seen equations.now)) }
+    ensures { IfOk result (λ first.
+        option_map found first ≡ rules.second_equation [] (equations_seen equations.now)) }
 {
     let mut before = NameSet::new(alloc);
     equation_again(&mut before, equations)
@@ -120,7 +126,8 @@ fn equation_again<'a>(
     before: &mut NameSet<'a>,
     equations: &'a [Equation],
 ) -> Result<Option<Found<'a>>, Memory>
-    ensures { IfOk result (λ first. option_map found first ≡ rules.second_equation before.old (equations_seen equations.now)) }
+    ensures { IfOk result (λ first.
+        option_map found first ≡ rules.second_equation before.old (equations_seen equations.now)) }
 {
     for equation in equations {
         if !put_name(before, &equation.name)? {

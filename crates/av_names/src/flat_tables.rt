@@ -17,7 +17,8 @@ pub(crate) fn place_table<'a>(
     variables: &[&'a Declaration],
 ) -> Result<NameMap<'a, u32>, Memory>
     requires { length variables.now ≤ 32 }
-    ensures { IfOk result (λ table. (name : Text) → place_or (length variables.now) table name ≡ place_of (map (λ d. d.now) variables.now) name) }
+    ensures { IfOk result (λ table. (name : Text) → place_or (length variables.now) table name
+        ≡ place_of (map (λ d. d.now) variables.now) name) }
 {
     let mut table = NameMap::new(alloc);
     let mut place = 0;
@@ -33,7 +34,9 @@ pub(crate) fn equation_table<'a>(
     alloc: Global,
     equations: &'a [Equation],
 ) -> Result<NameMap<'a, &'a Equation>, Memory>
-    ensures { IfOk result (λ table. (name : Text) → option_map (λ e. view_equation e.now) (lookup (bytes_eq name) table) ≡ equation_of (view_equations equations.now) name) }
+    ensures { IfOk result (λ table. (name : Text)
+        → option_map (λ e. view_equation e.now) (lookup (bytes_eq name) table)
+        ≡ equation_of (view_equations equations.now) name) }
 {
     let mut table = NameMap::new(alloc);
     for equation in equations {

@@ -22,7 +22,8 @@ pub(crate) fn is_before(left: Place, right: Place) -> bool
 
 /// The one that stands first; the left one of two at one place.
 pub(crate) fn sooner<'a>(left: Option<Found<'a>>, right: Option<Found<'a>>) -> Option<Found<'a>>
-    ensures { option_map found result ≡ first.sooner (λ f. f.place) (option_map found left.entry) (option_map found right.entry) }
+    ensures { option_map found result
+        ≡ first.sooner (λ f. f.place) (option_map found left.entry) (option_map found right.entry) }
 {
     match (left, right) {
         (None, _) => right,

@@ -45,7 +45,8 @@ fn unknown_in_terms<'a>(
     names: &NameSet<'_>,
     terms: &'a [Term],
 ) -> Option<Found<'a>>
-    ensures { option_map found result ≡ first_found (rules.unknown_term sizes.now names.now) terms.now }
+    ensures { option_map found result
+        ≡ first_found (rules.unknown_term sizes.now names.now) terms.now }
 {
     let mut first = None;
     for term in terms {
@@ -60,7 +61,8 @@ fn unknown_in_indices<'a>(
     names: &NameSet<'_>,
     entries: &'a [IndexExpr],
 ) -> Option<Found<'a>>
-    ensures { option_map found result ≡ first_found (rules.unknown_index sizes.now names.now) entries.now }
+    ensures { option_map found result
+        ≡ first_found (rules.unknown_index sizes.now names.now) entries.now }
 {
     let mut first = None;
     for entry in entries {
@@ -88,7 +90,8 @@ pub(crate) fn unknown_in_constraints<'a>(
     names: &NameSet<'_>,
     constraints: &'a [Constraint],
 ) -> Option<Found<'a>>
-    ensures { option_map found result ≡ first_found (rules.unknown_side sizes.now names.now) constraints.now }
+    ensures { option_map found result
+        ≡ first_found (rules.unknown_side sizes.now names.now) constraints.now }
 {
     let mut first = None;
     for constraint in constraints {
@@ -104,7 +107,8 @@ fn unknown_in_map<'a>(
     sizes: &NameSet<'_>,
     map: &'a MapText,
 ) -> Result<Option<Found<'a>>, Memory>
-    ensures { IfOk result (λ first. option_map found first ≡ first_found (rules.unknown_index sizes.now map.now.names) map.now.results) }
+    ensures { IfOk result (λ first. option_map found first
+        ≡ first_found (rules.unknown_index sizes.now map.now.names) map.now.results) }
 {
     let names = set_of(alloc, map.names.as_slice())?;
     Ok(unknown_in_indices(sizes, &names, map.results.as_slice()))
@@ -116,7 +120,8 @@ pub(crate) fn unknown_in_domain<'a>(
     sizes: &NameSet<'_>,
     domain: &'a DomainText,
 ) -> Result<Option<Found<'a>>, Memory>
-    ensures { IfOk result (λ first. option_map found first ≡ first_found (rules.unknown_side sizes.now domain.now.names) domain.now.constraints) }
+    ensures { IfOk result (λ first. option_map found first
+        ≡ first_found (rules.unknown_side sizes.now domain.now.names) domain.now.constraints) }
 {
     let names = set_of(alloc, domain.names.as_slice())?;
     let constraints = domain.constraints.as_slice();
@@ -130,7 +135,8 @@ fn unknown_in_restriction<'a>(
     context: &NameSet<'_>,
     domain: &'a DomainText,
 ) -> Result<Option<Found<'a>>, Memory>
-    ensures { IfOk result (λ first. option_map found first ≡ first_found (rules.unknown_side sizes.now (names_or context.now domain.now.names)) domain.now.constraints) }
+    ensures { IfOk result (λ first. option_map found first ≡ first_found (rules.unknown_side
+        sizes.now (names_or context.now domain.now.names)) domain.now.constraints) }
 {
     if domain.names.as_slice().is_empty() {
         let constraints = domain.constraints.as_slice();
@@ -147,7 +153,8 @@ fn unknown_in_access<'a>(
     context: &NameSet<'_>,
     at: &'a Access,
 ) -> Result<Option<Found<'a>>, Memory>
-    ensures { IfOk result (λ first. (c : Context) → SameNames context.now c.names → option_map found first ≡ rules.unknown_written sizes.now (behind c at.now)) }
+    ensures { IfOk result (λ first. (c : Context) → SameNames context.now c.names
+        → option_map found first ≡ rules.unknown_written sizes.now (behind c at.now)) }
 {
     match at {
         Access::Here => Ok(None),
@@ -163,7 +170,9 @@ fn unknown_at_head<'a>(
     context: &NameSet<'_>,
     expr: &'a Expr,
 ) -> Result<Option<Found<'a>>, Memory>
-    ensures { IfOk result (λ first. (c : Context) (reduced : Bool) → SameNames context.now c.names → option_map found first ≡ rules.unknown_written sizes.now (written_at (record { context = c; reduced = reduced; expression = view expr.now }))) }
+    ensures { IfOk result (λ first. (c : Context) (reduced : Bool) → SameNames context.now c.names
+        → option_map found first ≡ rules.unknown_written sizes.now (written_at
+        (record { context = c; reduced = reduced; expression = view expr.now }))) }
 {
     match expr {
         Expr::Ref { at, .. } | Expr::Const { at, .. } => {
@@ -183,7 +192,9 @@ pub(crate) fn unknown_inside<'a>(
     context: &NameSet<'_>,
     expr: &'a Expr,
 ) -> Result<Option<Found<'a>>, Memory>
-    ensures { IfOk result (λ first. (c : Context) (reduced : Bool) → SameNames context.now c.names → option_map found first ≡ first_found (λ p. rules.unknown_written sizes.now (written_at p)) (list.parts_of reduced c (view expr.now))) }
+    ensures { IfOk result (λ first. (c : Context) (reduced : Bool)
+        → SameNames context.now c.names → option_map found first ≡ first_found (λ p.
+        rules.unknown_written sizes.now (written_at p)) (list.parts_of reduced c (view expr.now))) }
 {
     let head = unknown_at_head(alloc, sizes, context, expr)?;
     let below = unknown_below(alloc, sizes, context, expr)?;
@@ -198,7 +209,9 @@ fn unknown_below<'a>(
     context: &NameSet<'_>,
     expr: &'a Expr,
 ) -> Result<Option<Found<'a>>, Memory>
-    ensures { IfOk result (λ first. (c : Context) (reduced : Bool) → SameNames context.now c.names → option_map found first ≡ first_found (λ p. rules.unknown_written sizes.now (written_at p)) (drop 1 (list.parts_of reduced c (view expr.now)))) }
+    ensures { IfOk result (λ first. (c : Context) (reduced : Bool) → SameNames context.now c.names
+        → option_map found first ≡ first_found (λ p. rules.unknown_written sizes.now
+        (written_at p)) (drop 1 (list.parts_of reduced c (view expr.now)))) }
 {
     match expr {
         Expr::Ref { .. } => Ok(None),
@@ -239,7 +252,9 @@ fn unknown_over<'a>(
     names: &[Name],
     expr: &'a Expr,
 ) -> Result<Option<Found<'a>>, Memory>
-    ensures { IfOk result (λ first. (c : Context) (reduced : Bool) → SameNames names.now c.names → option_map found first ≡ first_found (λ p. rules.unknown_written sizes.now (written_at p)) (list.parts_of reduced c (view expr.now))) }
+    ensures { IfOk result (λ first. (c : Context) (reduced : Bool)
+        → SameNames names.now c.names → option_map found first ≡ first_found (λ p.
+        rules.unknown_written sizes.now (written_at p)) (list.parts_of reduced c (view expr.now))) }
 {
     let context = set_of(alloc, names)?;
     unknown_inside(alloc, sizes, &context, expr)
@@ -252,7 +267,9 @@ fn unknown_inside_all<'a>(
     context: &NameSet<'_>,
     branches: &'a [Expr],
 ) -> Result<Option<Found<'a>>, Memory>
-    ensures { IfOk result (λ first. (c : Context) (reduced : Bool) → SameNames context.now c.names → option_map found first ≡ first_found (λ p. rules.unknown_written sizes.now (written_at p)) (list.parts_of_all reduced c (view_all branches.now))) }
+    ensures { IfOk result (λ first. (c : Context) (reduced : Bool) → SameNames context.now c.names
+        → option_map found first ≡ first_found (λ p. rules.unknown_written sizes.now
+        (written_at p)) (list.parts_of_all reduced c (view_all branches.now))) }
 {
     let mut first = None;
     for branch in branches {

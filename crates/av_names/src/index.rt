@@ -18,7 +18,9 @@ pub(crate) fn by_name<'a>(
     alloc: Global,
     variables: &[&'a Declaration],
 ) -> Result<NameMap<'a, &'a Declaration>, Memory>
-    ensures { IfOk result (λ table. (name : Text) → option_map (λ d. d.now) (lookup (bytes_eq name) table) ≡ find (λ d. bytes_eq d.name name) (map (λ d. d.now) variables.now)) }
+    ensures { IfOk result (λ table. (name : Text)
+        → option_map (λ d. d.now) (lookup (bytes_eq name) table)
+        ≡ find (λ d. bytes_eq d.name name) (map (λ d. d.now) variables.now)) }
 {
     let mut table = NameMap::new(alloc);
     for variable in variables {
@@ -29,7 +31,8 @@ pub(crate) fn by_name<'a>(
 
 /// The index names of the variable of this name.
 pub(crate) fn names_of<'a>(table: &NameMap<'a, &'a Declaration>, name: &Name) -> &'a [Name]
-    ensures { result.now ≡ names_at (option_map (λ d. d.now) (lookup (bytes_eq name.now) table.now)) }
+    ensures { result.now ≡ names_at
+        (option_map (λ d. d.now) (lookup (bytes_eq name.now) table.now)) }
 {
     match table.get(name.as_str().as_bytes()) {
         Some(variable) => variable.domain.names.as_slice(),
@@ -42,7 +45,8 @@ pub(crate) fn context<'a>(
     table: &NameMap<'a, &'a Declaration>,
     equation: &'a Equation,
 ) -> &'a [Name]
-    ensures { result.now ≡ domains.given_or (names_at (option_map (λ d. d.now) (lookup (bytes_eq equation.now.name) table.now))) equation.now.indices }
+    ensures { result.now ≡ domains.given_or (names_at (option_map
+        (λ d. d.now) (lookup (bytes_eq equation.now.name) table.now))) equation.now.indices }
 {
     match &equation.indices {
         Some(names) => names.as_slice(),
@@ -56,7 +60,8 @@ fn parts_over<'a>(
     system: &'a System,
     table: &NameMap<'a, &'a Declaration>,
 ) -> Result<Vec<Part<'a>>, Memory>
-    requires { (name : Text) → option_map (λ d. d.now) (lookup (bytes_eq name) table.now) ≡ find (λ d. bytes_eq d.name name) (domains.variables (view_system system.now)) }
+    requires { (name : Text) → option_map (λ d. d.now) (lookup (bytes_eq name) table.now)
+        ≡ find (λ d. bytes_eq d.name name) (domains.variables (view_system system.now)) }
     ensures { IfOk result (λ parts. map part parts.items ≡ list.parts (view_system system.now)) }
 {
     let mut parts = Vec::new(alloc);

@@ -54,7 +54,8 @@ fn limit(measure: Measure) -> u128
 
 /// The one that stands first; the left one of two at one place.
 pub(crate) fn sooner(left: Option<Counted>, right: Option<Counted>) -> Option<Counted>
-    ensures { option_map seen.counted result ≡ finds.sooner (λ c. c.place) (option_map seen.counted left) (option_map seen.counted right) }
+    ensures { option_map seen.counted result ≡ finds.sooner
+        (λ c. c.place) (option_map seen.counted left) (option_map seen.counted right) }
 {
     match (left, right) {
         (None, _) => right,
@@ -70,7 +71,8 @@ pub(crate) fn sooner(left: Option<Counted>, right: Option<Counted>) -> Option<Co
 }
 
 fn exceeding(measure: Measure, number: u128, place: Place) -> Option<Counted>
-    ensures { option_map seen.counted result ≡ rules.exceeds (limit_of measure) (record { number = number; place = place }) }
+    ensures { option_map seen.counted result
+        ≡ rules.exceeds (limit_of measure) (record { number = number; place = place }) }
 {
     if number > limit(measure) {
         Some(Counted { number, place })
@@ -94,7 +96,8 @@ fn greatest_of_terms(names: &[Name], terms: &[Term]) -> u128
 fn greatest_of_differences(names: &[Name], left: &[Term], right: &[Term]) -> u128
     requires left { AreShort left.now }
     requires right { AreShort right.now }
-    ensures { result ≡ rules.greatest (map (λ name. rows.coefficient left.now name -ℤ rows.coefficient right.now name) names.now) }
+    ensures { result ≡ rules.greatest (map
+        (λ name. rows.coefficient left.now name -ℤ rows.coefficient right.now name) names.now) }
 {
     let mut most: u128 = 0;
     for name in names {
@@ -107,7 +110,8 @@ fn greatest_of_differences(names: &[Name], left: &[Term], right: &[Term]) -> u12
 /// The greatest coefficient of the rows of a comparison.
 fn row_coefficient(names: &[Name], constraint: &Constraint) -> u128
     requires { HasShortSides constraint.now }
-    ensures { (sizes : Sizes) → result ≡ (rules.row_coefficient sizes names.now constraint.now).number }
+    ensures { (sizes : Sizes)
+        → result ≡ (rules.row_coefficient sizes names.now constraint.now).number }
 {
     match constraint.relation {
         Relation::Unequal => 0,
@@ -179,7 +183,8 @@ fn great_index(
 ) -> Option<Counted>
     requires short { All HasShortTerms entries.now }
     requires sizes { HasSmallValues (sizes_in sizes.now) }
-    ensures { option_map seen.counted result ≡ first_of (λ c. c.place) (λ e. rules.exceeds (limit_of measure) (seen.of_index measure (sizes_in sizes.now) names.now e)) entries.now }
+    ensures { option_map seen.counted result ≡ first_of (λ c. c.place) (λ e. rules.exceeds
+        (limit_of measure) (seen.of_index measure (sizes_in sizes.now) names.now e)) entries.now }
 {
     let mut first = None;
     for entry in entries {
@@ -199,7 +204,8 @@ fn great_row(
 ) -> Option<Counted>
     requires short { All HasShortSides constraints.now }
     requires sizes { HasSmallValues (sizes_in sizes.now) }
-    ensures { option_map seen.counted result ≡ first_of (λ c. c.place) (λ e. rules.exceeds (limit_of measure) (seen.of_row measure (sizes_in sizes.now) names.now e)) constraints.now }
+    ensures { option_map seen.counted result ≡ first_of (λ c. c.place) (λ e. rules.exceeds
+        (limit_of measure) (seen.of_row measure (sizes_in sizes.now) names.now e)) constraints.now }
 {
     let mut first = None;
     for constraint in constraints {
@@ -217,7 +223,9 @@ fn great_written(
 ) -> Option<Counted>
     requires short { IsShortWritten (seen.written written) }
     requires sizes { HasSmallValues (sizes_in sizes.now) }
-    ensures { option_map seen.counted result ≡ first_of (λ c. c.place) (rules.exceeds (limit_of measure)) (seen.numbers_of measure (sizes_in sizes.now) (seen.written written.entry)) }
+    ensures { option_map seen.counted result
+        ≡ first_of (λ c. c.place) (rules.exceeds (limit_of measure))
+        (seen.numbers_of measure (sizes_in sizes.now) (seen.written written.entry)) }
 {
     let index = great_index(measure, sizes, written.names, written.indices);
     let row = great_row(measure, sizes, written.names, written.constraints);
@@ -228,7 +236,8 @@ fn great_written(
 fn great(measure: Measure, sizes: &NameMap<'_, i64>, all: &[Written<'_>]) -> Option<u128>
     requires short { All (λ w. IsShortWritten (seen.written w)) all.now }
     requires sizes { HasSmallValues (sizes_in sizes.now) }
-    ensures { (s : Spelled) → map seen.written all.now ≡ all_written s → result ≡ seen.great measure s (sizes_in sizes.now) }
+    ensures { (s : Spelled) → map seen.written all.now ≡ all_written s
+        → result ≡ seen.great measure s (sizes_in sizes.now) }
 {
     let mut first = None;
     for written in all {
@@ -258,9 +267,11 @@ fn great_number<'a>(
 ) -> Result<Option<u128>, Memory>
     requires text { IsOfText (view_system system.now) }
     requires small { AreSmall sizes.now }
-    requires variables { map (λ d. d.now) variables.now ≡ domains.variables (view_system system.now) }
+    requires variables { map (λ d. d.now) variables.now
+        ≡ domains.variables (view_system system.now) }
     requires parts { map part parts.now ≡ list.parts (view_system system.now) }
-    ensures { IfOk result (λ n. n ≡ seen.great measure (view_system system.now) (sizes_of sizes.now)) }
+    ensures { IfOk result (λ n.
+        n ≡ seen.great measure (view_system system.now) (sizes_of sizes.now)) }
 {
     let table = size_table(alloc, sizes)?;
     let all = written_all(alloc, system, variables, parts)?;
@@ -277,9 +288,11 @@ pub(crate) fn great_coefficient<'a>(
 ) -> Result<Option<u128>, Memory>
     requires text { IsOfText (view_system system.now) }
     requires small { AreSmall sizes.now }
-    requires variables { map (λ d. d.now) variables.now ≡ domains.variables (view_system system.now) }
+    requires variables { map (λ d. d.now) variables.now
+        ≡ domains.variables (view_system system.now) }
     requires parts { map part parts.now ≡ list.parts (view_system system.now) }
-    ensures { IfOk result (λ n. n ≡ rules.great_coefficient (view_system system.now) (sizes_of sizes.now)) }
+    ensures { IfOk result (λ n.
+        n ≡ rules.great_coefficient (view_system system.now) (sizes_of sizes.now)) }
 {
     great_number(alloc, Measure::Coefficient, system, sizes, variables, parts)
 }
@@ -294,9 +307,11 @@ pub(crate) fn great_constant<'a>(
 ) -> Result<Option<u128>, Memory>
     requires text { IsOfText (view_system system.now) }
     requires small { AreSmall sizes.now }
-    requires variables { map (λ d. d.now) variables.now ≡ domains.variables (view_system system.now) }
+    requires variables { map (λ d. d.now) variables.now
+        ≡ domains.variables (view_system system.now) }
     requires parts { map part parts.now ≡ list.parts (view_system system.now) }
-    ensures { IfOk result (λ n. n ≡ rules.great_constant (view_system system.now) (sizes_of sizes.now)) }
+    ensures { IfOk result (λ n.
+        n ≡ rules.great_constant (view_system system.now) (sizes_of sizes.now)) }
 {
     great_number(alloc, Measure::Constant, system, sizes, variables, parts)
 }

@@ -41,7 +41,8 @@ fn times(factor: i128, value: Option<i64>) -> Option<i128>
 fn term_at(sizes: &NameMap<'_, i64>, term: &Term) -> Option<i128>
     requires factor { unsigned_abs term.now.factor < 2 ^ 64 }
     requires sizes { HasSmallValues (sizes_in sizes.now) }
-    ensures value { result ≡ points.times term.now.factor (points.unit_at (sizes_in sizes.now) term.now.name) }
+    ensures value { result ≡ points.times term.now.factor
+        (points.unit_at (sizes_in sizes.now) term.now.name) }
     ensures small { IfSome result (λ k. unsigned_abs k ≤ 2 ^ 84) }
 {
     match &term.name {
@@ -82,7 +83,9 @@ fn compares(relation: Relation, left: i128, right: i128) -> bool
 fn holds(sizes: &NameMap<'_, i64>, constraint: &Constraint) -> bool
     requires short { HasShortSides constraint.now }
     requires sizes { HasSmallValues (sizes_in sizes.now) }
-    ensures { result ≡ domains.both_compare constraint.now.relation (points.index_at (sizes_in sizes.now) constraint.now.left) (points.index_at (sizes_in sizes.now) constraint.now.right) }
+    ensures { result ≡ domains.both_compare constraint.now.relation
+        (points.index_at (sizes_in sizes.now) constraint.now.left)
+        (points.index_at (sizes_in sizes.now) constraint.now.right) }
 {
     let left = sum_at(sizes, constraint.left.terms.as_slice());
     let right = sum_at(sizes, constraint.right.terms.as_slice());

@@ -32,7 +32,8 @@ pub(crate) fn gather<'a>(
     reduced: bool,
     expr: &'a Expr,
 ) -> Result<(), Memory>
-    ensures { OnOk result (map part parts.new.items ≡ map part parts.old.items ++ list.parts_of reduced (seen context.entry) (view expr.now)) }
+    ensures { OnOk result (map part parts.new.items
+        ≡ map part parts.old.items ++ list.parts_of reduced (seen context.entry) (view expr.now)) }
 {
     parts.push(Part {
         context,
@@ -77,7 +78,8 @@ fn gather_all<'a>(
     reduced: bool,
     branches: &'a [Expr],
 ) -> Result<(), Memory>
-    ensures { OnOk result (map part parts.new.items ≡ map part parts.old.items ++ list.parts_of_all reduced (seen context.entry) (view_all branches.now)) }
+    ensures { OnOk result (map part parts.new.items ≡ map part parts.old.items
+        ++ list.parts_of_all reduced (seen context.entry) (view_all branches.now)) }
 {
     for branch in branches {
         gather(parts, context, reduced, branch)?;

@@ -16,7 +16,8 @@ use std::alloc::Global;
 
 /// The first reduction's map that does not give all its names but one, each once and plain.
 pub(crate) fn projection(alloc: Global, parts: &[Part<'_>]) -> Result<Option<Place>, Memory>
-    ensures { IfOk result (λ first. (s : System) → map part parts.now ≡ list.parts s → first ≡ rules.projection s) }
+    ensures { IfOk result (λ first. (s : System)
+        → map part parts.now ≡ list.parts s → first ≡ rules.projection s) }
 {
     let mut first = None;
     for part in parts {

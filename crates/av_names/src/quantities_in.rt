@@ -36,7 +36,8 @@ pub(crate) fn too_many_variables(variables: &[&Declaration]) -> Option<u128>
 
 /// A length at a place, where it is above the limit.
 fn exceeds(limit: usize, length: usize, place: Place) -> Option<Counted>
-    ensures { option_map counted result ≡ rules.exceeds limit (record { number = length; place = place }) }
+    ensures { option_map counted result
+        ≡ rules.exceeds limit (record { number = length; place = place }) }
 {
     if length > limit {
         Some(Counted {
@@ -50,7 +51,8 @@ fn exceeds(limit: usize, length: usize, place: Place) -> Option<Counted>
 
 /// The first declared domain with too many indices.
 fn indices_of_variables(variables: &[&Declaration]) -> Option<Counted>
-    ensures { option_map counted result ≡ first_of (λ c. c.place) (λ d. rules.exceeds 4 (rules.of_declaration d.now)) variables.now }
+    ensures { option_map counted result ≡ first_of
+        (λ c. c.place) (λ d. rules.exceeds 4 (rules.of_declaration d.now)) variables.now }
 {
     let mut first = None;
     for variable in variables {
@@ -62,7 +64,8 @@ fn indices_of_variables(variables: &[&Declaration]) -> Option<Counted>
 }
 
 fn indices_of_equation(equation: &Equation) -> Option<Counted>
-    ensures { option_map counted result ≡ at_option (rules.exceeds 4) (rules.of_equation (view_equation equation.now)) }
+    ensures { option_map counted result
+        ≡ at_option (rules.exceeds 4) (rules.of_equation (view_equation equation.now)) }
 {
     match &equation.indices {
         None => None,
@@ -72,7 +75,8 @@ fn indices_of_equation(equation: &Equation) -> Option<Counted>
 
 /// The first equation with too many indices.
 fn indices_of_equations(equations: &[Equation]) -> Option<Counted>
-    ensures { option_map counted result ≡ first_of (λ c. c.place) (λ e. at_option (rules.exceeds 4) (rules.of_equation (view_equation e))) equations.now }
+    ensures { option_map counted result ≡ first_of (λ c. c.place)
+        (λ e. at_option (rules.exceeds 4) (rules.of_equation (view_equation e))) equations.now }
 {
     let mut first = None;
     for equation in equations {
@@ -84,7 +88,8 @@ fn indices_of_equations(equations: &[Equation]) -> Option<Counted>
 
 /// The names of a map before its results.
 fn indices_of_map(map: &MapText) -> Option<Counted>
-    ensures { option_map counted result ≡ first_of (λ c. c.place) (rules.exceeds 4) (rules.of_map (Some map.now)) }
+    ensures { option_map counted result
+        ≡ first_of (λ c. c.place) (rules.exceeds 4) (rules.of_map (Some map.now)) }
 {
     let names = exceeds(MOST_INDICES, map.names.as_slice().len(), map.place);
     let results = exceeds(MOST_INDICES, map.results.as_slice().len(), map.place);
@@ -92,7 +97,8 @@ fn indices_of_map(map: &MapText) -> Option<Counted>
 }
 
 fn indices_of_expression(expr: &Expr) -> Option<Counted>
-    ensures { option_map counted result ≡ first_of (λ c. c.place) (rules.exceeds 4) (rules.of_expression (view expr.now)) }
+    ensures { option_map counted result
+        ≡ first_of (λ c. c.place) (rules.exceeds 4) (rules.of_expression (view expr.now)) }
 {
     match expr {
         Expr::Restrict { domain, .. } => {
@@ -114,7 +120,8 @@ fn indices_of_expression(expr: &Expr) -> Option<Counted>
 
 /// The first restriction or map with too many indices.
 fn indices_of_parts(parts: &[Part<'_>]) -> Option<Counted>
-    ensures { option_map counted result ≡ first_of (λ c. c.place) (λ p. first_of (λ c. c.place) (rules.exceeds 4) (rules.of_part (part p))) parts.now }
+    ensures { option_map counted result ≡ first_of (λ c. c.place)
+        (λ p. first_of (λ c. c.place) (rules.exceeds 4) (rules.of_part (part p))) parts.now }
 {
     let mut first = None;
     for part in parts {
@@ -130,7 +137,8 @@ pub(crate) fn too_many_indices(
     variables: &[&Declaration],
     parts: &[Part<'_>],
 ) -> Option<u128>
-    requires variables { map (λ d. d.now) variables.now ≡ domains.variables (view_system system.now) }
+    requires variables { map (λ d. d.now) variables.now
+        ≡ domains.variables (view_system system.now) }
     requires parts { map part parts.now ≡ list.parts (view_system system.now) }
     ensures { result ≡ rules.too_many_indices (view_system system.now) }
 {
@@ -146,7 +154,9 @@ fn nodes_of(
     table: &NameMap<'_, &Declaration>,
     equation: &Equation,
 ) -> Result<usize, Memory>
-    ensures { IfOk result (λ nodes. nodes ≡ length (list.parts_of false (over (domains.given_or (names_at (option_map (λ d. d.now) (lookup (bytes_eq equation.now.name) table.now))) equation.now.indices)) (view equation.now.right))) }
+    ensures { IfOk result (λ nodes. nodes ≡ length (list.parts_of false (over (domains.given_or
+        (names_at (option_map (λ d. d.now) (lookup (bytes_eq equation.now.name) table.now)))
+        equation.now.indices)) (view equation.now.right))) }
 {
     let mut parts = Vec::new(alloc);
     let names = context(table, equation);
@@ -160,7 +170,12 @@ fn nodes_of_equations(
     table: &NameMap<'_, &Declaration>,
     equations: &[Equation],
 ) -> Result<Option<Counted>, Memory>
-    ensures { IfOk result (λ first. option_map counted first ≡ first_of (λ c. c.place) (λ e. rules.exceeds 4096 (record { number = length (list.parts_of false (over (domains.given_or (names_at (option_map (λ d. d.now) (lookup (bytes_eq e.name) table.now))) e.indices)) (view e.right)); place = e.place })) equations.now) }
+    ensures { IfOk result (λ first. option_map counted first
+        ≡ first_of (λ c. c.place) (λ e. rules.exceeds 4096 (record {
+          number = length (list.parts_of false (over (domains.given_or (names_at (option_map
+              (λ d. d.now) (lookup (bytes_eq e.name) table.now))) e.indices)) (view e.right));
+          place = e.place;
+        })) equations.now) }
 {
     let mut first = None;
     for equation in equations {

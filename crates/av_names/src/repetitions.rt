@@ -38,7 +38,8 @@ fn is_repeated<'a>(
     sizes: &NameSet<'_>,
     name: &'a Name,
 ) -> Result<bool, Memory>
-    ensures repeated { IfOk result (λ yes. yes ≡ (is_index behind.old name.now || is_index sizes.now name.now)) }
+    ensures repeated { IfOk result (λ yes.
+        yes ≡ (is_index behind.old name.now || is_index sizes.now name.now)) }
     ensures names { OnOk result (SameNames behind.new (name.now ∷ behind.old)) }
 {
     let added = put_name(behind, name)?;
@@ -51,7 +52,8 @@ pub(crate) fn again<'a>(
     sizes: &NameSet<'_>,
     names: &'a [Name],
 ) -> Result<Option<&'a Name>, Memory>
-    ensures { IfOk result (λ name. option_map (λ n. n.now) name ≡ repeats.again sizes.now names.now) }
+    ensures { IfOk result (λ name.
+        option_map (λ n. n.now) name ≡ repeats.again sizes.now names.now) }
 {
     let mut behind = NameSet::new(alloc);
     let mut first = None;
@@ -73,7 +75,8 @@ fn repeated_index<'a>(
     names: &'a [Name],
     place: Place,
 ) -> Result<Option<Found<'a>>, Memory>
-    ensures { IfOk result (λ first. option_map found first ≡ repeats.repeated_index sizes.now (record { names = names.now; place = place })) }
+    ensures { IfOk result (λ first. option_map found first
+        ≡ repeats.repeated_index sizes.now (record { names = names.now; place = place })) }
 {
     match again(alloc, sizes, names)? {
         None => Ok(None),
@@ -87,7 +90,8 @@ pub(crate) fn repeated_variable<'a>(
     sizes: &'a [Name],
     variables: &[&'a Declaration],
 ) -> Result<Option<Found<'a>>, Memory>
-    ensures { IfOk result (λ first. option_map found first ≡ repeats.repeated_variable sizes.now (map (λ d. d.now) variables.now)) }
+    ensures { IfOk result (λ first. option_map found first
+        ≡ repeats.repeated_variable sizes.now (map (λ d. d.now) variables.now)) }
 {
     let mut before = set_of(alloc, sizes)?;
     for variable in variables {
@@ -107,7 +111,8 @@ fn in_variables<'a>(
     sizes: &NameSet<'_>,
     variables: &[&'a Declaration],
 ) -> Result<Option<Found<'a>>, Memory>
-    ensures { IfOk result (λ first. option_map found first ≡ first_found (λ d. repeats.repeated_index sizes.now (repeats.of_declaration d.now)) variables.now) }
+    ensures { IfOk result (λ first. option_map found first ≡ first_found
+        (λ d. repeats.repeated_index sizes.now (repeats.of_declaration d.now)) variables.now) }
 {
     let mut first = None;
     for variable in variables {
@@ -124,7 +129,8 @@ fn in_equations<'a>(
     sizes: &NameSet<'_>,
     equations: &'a [Equation],
 ) -> Result<Option<Found<'a>>, Memory>
-    ensures { IfOk result (λ first. option_map found first ≡ first_found (λ e. at_option (repeats.repeated_index sizes.now) (repeats.of_equation (view_equation e))) equations.now) }
+    ensures { IfOk result (λ first. option_map found first ≡ first_found (λ e. at_option
+        (repeats.repeated_index sizes.now) (repeats.of_equation (view_equation e))) equations.now) }
 {
     let mut first = None;
     for equation in equations {
@@ -139,7 +145,8 @@ fn in_equation<'a>(
     sizes: &NameSet<'_>,
     equation: &'a Equation,
 ) -> Result<Option<Found<'a>>, Memory>
-    ensures { IfOk result (λ first. option_map found first ≡ at_option (repeats.repeated_index sizes.now) (repeats.of_equation (view_equation equation.now))) }
+    ensures { IfOk result (λ first. option_map found first ≡ at_option
+        (repeats.repeated_index sizes.now) (repeats.of_equation (view_equation equation.now))) }
 {
     match &equation.indices {
         None => Ok(None),
@@ -153,7 +160,8 @@ fn in_parts<'a>(
     sizes: &NameSet<'_>,
     parts: &[Part<'a>],
 ) -> Result<Option<Found<'a>>, Memory>
-    ensures { IfOk result (λ first. option_map found first ≡ first_found (λ p. at_option (repeats.repeated_index sizes.now) (repeats.of_part (part p))) parts.now) }
+    ensures { IfOk result (λ first. option_map found first ≡ first_found
+        (λ p. at_option (repeats.repeated_index sizes.now) (repeats.of_part (part p))) parts.now) }
 {
     let mut first = None;
     for part in parts {
@@ -168,7 +176,8 @@ fn in_part<'a>(
     sizes: &NameSet<'_>,
     expr: &'a Expr,
 ) -> Result<Option<Found<'a>>, Memory>
-    ensures { IfOk result (λ first. option_map found first ≡ at_option (repeats.repeated_index sizes.now) (repeats.of_expression (view expr.now))) }
+    ensures { IfOk result (λ first. option_map found first
+        ≡ at_option (repeats.repeated_index sizes.now) (repeats.of_expression (view expr.now))) }
 {
     match expr {
         Expr::Restrict { domain, .. } => {
@@ -228,9 +237,11 @@ fn repeated_among<'a>(
     parts: &[Part<'a>],
 ) -> Result<Option<Found<'a>>, Memory>
     requires sizes { SameNames sizes.now system.now.sizes.names }
-    requires variables { map (λ d. d.now) variables.now ≡ domains.variables (view_system system.now) }
+    requires variables { map (λ d. d.now) variables.now
+        ≡ domains.variables (view_system system.now) }
     requires parts { map part parts.now ≡ list.parts (view_system system.now) }
-    ensures { IfOk result (λ first. option_map found first ≡ repeats.repeated (view_system system.now)) }
+    ensures { IfOk result (λ first.
+        option_map found first ≡ repeats.repeated (view_system system.now)) }
 {
     let names = system.sizes.names.as_slice();
     let size = repeated_size(alloc, &system.sizes)?;
@@ -246,9 +257,11 @@ pub(crate) fn repeated<'a>(
     variables: &[&'a Declaration],
     parts: &[Part<'a>],
 ) -> Result<Option<Found<'a>>, Memory>
-    requires variables { map (λ d. d.now) variables.now ≡ domains.variables (view_system system.now) }
+    requires variables { map (λ d. d.now) variables.now
+        ≡ domains.variables (view_system system.now) }
     requires parts { map part parts.now ≡ list.parts (view_system system.now) }
-    ensures { IfOk result (λ first. option_map found first ≡ repeats.repeated (view_system system.now)) }
+    ensures { IfOk result (λ first.
+        option_map found first ≡ repeats.repeated (view_system system.now)) }
 {
     let sizes = set_of(alloc, system.sizes.names.as_slice())?;
     repeated_among(alloc, &sizes, system, variables, parts)

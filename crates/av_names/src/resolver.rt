@@ -46,14 +46,18 @@ pub fn resolve(
     requires small { AreSmall sizes.now }
 
     // It is refused for the first rule that holds, unless memory runs out.
-    ensures refused { (f : Fault) → result ≡ Err f → (f ≡ fault.Memory) ⊎ IsRefusal (view_system system.now) sizes.now f }
-    ensures complete { (f : Fault) → IsRefusal (view_system system.now) sizes.now f → (result ≡ Err f) ⊎ (result ≡ Err fault.Memory) }
+    ensures refused { (f : Fault) → result ≡ Err f
+        → (f ≡ fault.Memory) ⊎ IsRefusal (view_system system.now) sizes.now f }
+    ensures complete { (f : Fault) → IsRefusal (view_system system.now) sizes.now f
+        → (result ≡ Err f) ⊎ (result ≡ Err fault.Memory) }
     ensures accepted { IfOk result (λ to. IsAccepted (view_system system.now) sizes.now) }
 
     // The flat system is that of the tree; it is well formed, and says what the tree says.
-    ensures found { IfOk result (λ to. flat.view_system to ≡ flattened.flat_of (instance_of (view_system system.now) sizes.now width.bits)) }
+    ensures found { IfOk result (λ to. flat.view_system to
+        ≡ flattened.flat_of (instance_of (view_system system.now) sizes.now width.bits)) }
     ensures well_formed { IfOk result (λ to. IsWellFormed (flat.view_system to)) }
-    ensures same { IfOk result (λ to. SaysTheSame (instance_of (view_system system.now) sizes.now width.bits) (flat.view_system to)) }
+    ensures same { IfOk result (λ to. SaysTheSame
+        (instance_of (view_system system.now) sizes.now width.bits) (flat.view_system to)) }
 {
     let fault = first_fault(alloc, system, sizes)?;
     match fault {

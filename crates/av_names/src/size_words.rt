@@ -37,7 +37,8 @@ pub(crate) fn given<'a>(alloc: Global, sizes: &'a [Size]) -> Result<NameSet<'a>,
 
 /// The first size that the set does not have.
 pub(crate) fn size_unknown<'a>(named: &NameSet<'_>, sizes: &'a [Size]) -> Option<&'a Name>
-    ensures { option_map (λ n. n.now) result ≡ find (λ n. not (is_index named.now n)) (words.names_of sizes.now) }
+    ensures { option_map (λ n. n.now) result
+        ≡ find (λ n. not (is_index named.now n)) (words.names_of sizes.now) }
 {
     for size in sizes {
         if !is_among(named, &size.name) {

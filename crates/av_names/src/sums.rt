@@ -74,7 +74,8 @@ pub(crate) fn product(factor: i128, value: i64) -> i128
 fn fixed(sizes: &NameMap<'_, i64>, names: &[Name], term: &Term) -> i128
     requires factor { unsigned_abs term.now.factor < 2 ^ 64 }
     requires sizes { HasSmallValues (sizes_in sizes.now) }
-    ensures value { result ≡ rows.fixed (sizes_in sizes.now) names.now term.now.factor term.now.name }
+    ensures value { result ≡ rows.fixed
+        (sizes_in sizes.now) names.now term.now.factor term.now.name }
     ensures small { unsigned_abs result ≤ 2 ^ 84 }
 {
     match &term.name {
@@ -108,7 +109,8 @@ pub(crate) fn constant(sizes: &NameMap<'_, i64>, names: &[Name], terms: &[Term])
 pub(crate) fn coefficient_between(left: &[Term], right: &[Term], name: &Name) -> i128
     requires left { AreShort left.now }
     requires right { AreShort right.now }
-    ensures value { result ≡ rows.coefficient left.now name.now -ℤ rows.coefficient right.now name.now }
+    ensures value { result
+        ≡ rows.coefficient left.now name.now -ℤ rows.coefficient right.now name.now }
     ensures small { unsigned_abs result ≤ 2 ^ 97 }
 {
     coefficient(left, name) - coefficient(right, name)
@@ -126,7 +128,8 @@ pub(crate) fn constant_between(
     requires right { AreShort right.now }
     requires gap { unsigned_abs gap ≤ 1 }
     requires sizes { HasSmallValues (sizes_in sizes.now) }
-    ensures value { result ≡ rows.constant (sizes_in sizes.now) names.now left.now -ℤ rows.constant (sizes_in sizes.now) names.now right.now -ℤ gap }
+    ensures value { result ≡ rows.constant (sizes_in sizes.now) names.now left.now -ℤ rows.constant
+        (sizes_in sizes.now) names.now right.now -ℤ gap }
     ensures small { unsigned_abs result ≤ 2 ^ 118 }
 {
     constant(sizes, names, left) - constant(sizes, names, right) - gap

@@ -27,7 +27,8 @@ pub(crate) fn computed_variables<'a>(
     alloc: Global,
     system: &'a System,
 ) -> Result<Vec<&'a Declaration>, Memory>
-    ensures { IfOk result (λ all. map (λ d. d.now) all.items ≡ system.now.outputs ++ system.now.locals) }
+    ensures { IfOk result (λ all.
+        map (λ d. d.now) all.items ≡ system.now.outputs ++ system.now.locals) }
 {
     let mut all = Vec::new(alloc);
     append(&mut all, system.outputs.as_slice())?;
@@ -36,7 +37,8 @@ pub(crate) fn computed_variables<'a>(
 }
 
 fn append<'a>(all: &mut Vec<&'a Declaration>, declarations: &'a [Declaration]) -> Result<(), Memory>
-    ensures { OnOk result (map (λ d. d.now) all.new.items ≡ map (λ d. d.now) all.old.items ++ declarations.now) }
+    ensures { OnOk result (map (λ d. d.now) all.new.items
+        ≡ map (λ d. d.now) all.old.items ++ declarations.now) }
 {
     for declaration in declarations {
         all.push(declaration)?;

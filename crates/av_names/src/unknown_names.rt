@@ -25,7 +25,8 @@ use std::alloc::Global;
 
 /// The names of the variables.
 fn variable_names<'a>(alloc: Global, variables: &[&'a Declaration]) -> Result<NameSet<'a>, Memory>
-    ensures { IfOk result (λ set. SameNames set (rules.declared_as (map (λ d. d.now) variables.now))) }
+    ensures { IfOk result (λ set.
+        SameNames set (rules.declared_as (map (λ d. d.now) variables.now))) }
 {
     let mut set = NameSet::new(alloc);
     for variable in variables {
@@ -36,7 +37,8 @@ fn variable_names<'a>(alloc: Global, variables: &[&'a Declaration]) -> Result<Na
 
 /// The first equation of another name than these.
 fn unknown_in_equations<'a>(variables: &NameSet<'_>, equations: &'a [Equation]) -> Option<Found<'a>>
-    ensures { option_map found result ≡ first_found (λ e. finds.found_where (not (is_index variables.now e.name)) e.name e.place) equations.now }
+    ensures { option_map found result ≡ first_found (λ e.
+        finds.found_where (not (is_index variables.now e.name)) e.name e.place) equations.now }
 {
     let mut first = None;
     for equation in equations {
@@ -58,7 +60,8 @@ fn unknown_reference<'a>(variables: &NameSet<'_>, expr: &'a Expr) -> Option<Foun
 
 /// The first reference of another name than these.
 fn unknown_in_references<'a>(variables: &NameSet<'_>, parts: &[Part<'a>]) -> Option<Found<'a>>
-    ensures { option_map found result ≡ first_found (λ p. rules.unknown_variable variables.now (part p).expression) parts.now }
+    ensures { option_map found result
+        ≡ first_found (λ p. rules.unknown_variable variables.now (part p).expression) parts.now }
 {
     let mut first = None;
     for part in parts {
@@ -74,7 +77,8 @@ fn unknown_in_declarations<'a>(
     sizes: &NameSet<'_>,
     variables: &[&'a Declaration],
 ) -> Result<Option<Found<'a>>, Memory>
-    ensures { IfOk result (λ first. option_map found first ≡ first_found (λ d. first_found (rules.unknown_side sizes.now d.now.domain.names) d.now.domain.constraints) variables.now) }
+    ensures { IfOk result (λ first. option_map found first ≡ first_found (λ d. first_found
+        (rules.unknown_side sizes.now d.now.domain.names) d.now.domain.constraints) variables.now) }
 {
     let mut first = None;
     for variable in variables {
@@ -104,7 +108,10 @@ fn unknown_in_rights<'a>(
     table: &NameMap<'_, &Declaration>,
     equations: &'a [Equation],
 ) -> Result<Option<Found<'a>>, Memory>
-    ensures { IfOk result (λ first. option_map found first ≡ first_found (λ e. first_found (λ p. rules.unknown_written sizes.now (written_at p)) (list.parts_of false (over (domains.given_or (names_at (option_map (λ d. d.now) (lookup (bytes_eq e.name) table.now))) e.indices)) (view e.right))) equations.now) }
+    ensures { IfOk result (λ first. option_map found first
+        ≡ first_found (λ e. first_found (λ p. rules.unknown_written sizes.now (written_at p))
+        (list.parts_of false (over (domains.given_or (names_at (option_map (λ d. d.now)
+        (lookup (bytes_eq e.name) table.now))) e.indices)) (view e.right))) equations.now) }
 {
     let mut first = None;
     for equation in equations {
@@ -120,7 +127,8 @@ fn unknown_in_sizes<'a>(
     sizes: &NameSet<'_>,
     domain: &'a DomainText,
 ) -> Option<Found<'a>>
-    ensures { option_map found result ≡ first_found (rules.unknown_side sizes.now []) domain.now.constraints }
+    ensures { option_map found result
+        ≡ first_found (rules.unknown_side sizes.now []) domain.now.constraints }
 {
     let nothing = NameSet::new(alloc);
     unknown_in_constraints(sizes, &nothing, domain.constraints.as_slice())
@@ -134,7 +142,8 @@ fn unknown_in_parts<'a>(
     variables: &[&'a Declaration],
 ) -> Result<Option<Found<'a>>, Memory>
     requires { map (λ d. d.now) variables.now ≡ domains.variables (view_system system.now) }
-    ensures { IfOk result (λ first. option_map found first ≡ first_found (rules.unknown_written sizes.now) (map written_at (list.parts (view_system system.now)))) }
+    ensures { IfOk result (λ first. option_map found first ≡ first_found
+        (rules.unknown_written sizes.now) (map written_at (list.parts (view_system system.now)))) }
 {
     let table = by_name(alloc, variables)?;
     unknown_in_rights(alloc, sizes, &table, system.equations.as_slice())
@@ -148,8 +157,10 @@ fn unknown_index_among<'a>(
     variables: &[&'a Declaration],
 ) -> Result<Option<Found<'a>>, Memory>
     requires sizes { SameNames sizes.now system.now.sizes.names }
-    requires variables { map (λ d. d.now) variables.now ≡ domains.variables (view_system system.now) }
-    ensures { IfOk result (λ first. option_map found first ≡ first_found (rules.unknown_written system.now.sizes.names) (all_written (view_system system.now))) }
+    requires variables { map (λ d. d.now) variables.now
+        ≡ domains.variables (view_system system.now) }
+    ensures { IfOk result (λ first. option_map found first ≡ first_found
+        (rules.unknown_written system.now.sizes.names) (all_written (view_system system.now))) }
 {
     let outer = unknown_in_sizes(alloc, sizes, &system.sizes);
     let domain = unknown_in_declarations(alloc, sizes, variables)?;
@@ -164,7 +175,8 @@ fn unknown_index<'a>(
     variables: &[&'a Declaration],
 ) -> Result<Option<Found<'a>>, Memory>
     requires { map (λ d. d.now) variables.now ≡ domains.variables (view_system system.now) }
-    ensures { IfOk result (λ first. option_map found first ≡ first_found (rules.unknown_written system.now.sizes.names) (all_written (view_system system.now))) }
+    ensures { IfOk result (λ first. option_map found first ≡ first_found
+        (rules.unknown_written system.now.sizes.names) (all_written (view_system system.now))) }
 {
     let sizes = set_of(alloc, system.sizes.names.as_slice())?;
     unknown_index_among(alloc, &sizes, system, variables)
@@ -177,9 +189,11 @@ pub(crate) fn unknown<'a>(
     variables: &[&'a Declaration],
     parts: &[Part<'a>],
 ) -> Result<Option<Found<'a>>, Memory>
-    requires variables { map (λ d. d.now) variables.now ≡ domains.variables (view_system system.now) }
+    requires variables { map (λ d. d.now) variables.now
+        ≡ domains.variables (view_system system.now) }
     requires parts { map part parts.now ≡ list.parts (view_system system.now) }
-    ensures { IfOk result (λ first. option_map found first ≡ rules.unknown (view_system system.now)) }
+    ensures { IfOk result (λ first.
+        option_map found first ≡ rules.unknown (view_system system.now)) }
 {
     let known = variable_names(alloc, variables)?;
     let equation = unknown_in_equations(&known, system.equations.as_slice());

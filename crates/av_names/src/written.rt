@@ -30,7 +30,8 @@ pub(crate) fn given_names<'a>(context: &'a [Name], names: &'a [Name]) -> &'a [Na
 }
 
 fn over_names<'a>(names: &'a [Name], indices: &'a [IndexExpr]) -> Written<'a>
-    ensures { seen.written result ≡ record { names = names.now; indices = indices.now; constraints = [] } }
+    ensures { seen.written result
+        ≡ record { names = names.now; indices = indices.now; constraints = [] } }
 {
     Written {
         names,
@@ -78,9 +79,11 @@ pub(crate) fn written_all<'a>(
     variables: &[&'a Declaration],
     parts: &[Part<'a>],
 ) -> Result<Vec<Written<'a>>, Memory>
-    requires variables { map (λ d. d.now) variables.now ≡ domains.variables (view_system system.now) }
+    requires variables { map (λ d. d.now) variables.now
+        ≡ domains.variables (view_system system.now) }
     requires parts { map part parts.now ≡ list.parts (view_system system.now) }
-    ensures { IfOk result (λ all. map seen.written all.items ≡ all_written (view_system system.now)) }
+    ensures { IfOk result (λ all.
+        map seen.written all.items ≡ all_written (view_system system.now)) }
 {
     let mut all = Vec::new(alloc);
     all.push(Written {

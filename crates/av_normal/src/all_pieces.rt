@@ -87,9 +87,12 @@ fn made_piece(
     requires domain { All IsWithinLimits domain.now.rows }
     requires number { number < piece_count (view tree.now) }
     requires few { piece_count (view tree.now) ≤ 256 }
-    ensures made { IfOk result (λ q. IsMade domain.now.dim (held domain.now.rows (part_at (parts (signatures_of vars.now) [] (view tree.now)) number)) (view_piece q)) }
-    ensures narrow { OnOk result (IsNarrow (of_set (set_of domain.now.dim (held domain.now.rows (part_at (parts (signatures_of vars.now) [] (view tree.now)) number))))) }
-    ensures wide { IfErr result (IsWide (of_set (set_of domain.now.dim (held domain.now.rows (part_at (parts (signatures_of vars.now) [] (view tree.now)) number))) ∷ [])) }
+    ensures made { IfOk result (λ q. IsMade domain.now.dim (held domain.now.rows
+        (part_at (parts (signatures_of vars.now) [] (view tree.now)) number)) (view_piece q)) }
+    ensures narrow { OnOk result (IsNarrow (of_set (set_of domain.now.dim (held domain.now.rows
+        (part_at (parts (signatures_of vars.now) [] (view tree.now)) number))))) }
+    ensures wide { IfErr result (IsWide (of_set (set_of domain.now.dim (held domain.now.rows
+        (part_at (parts (signatures_of vars.now) [] (view tree.now)) number))) ∷ [])) }
 {
     let piece = piece_at(alloc, vars, domain, tree, number)?;
     let domain = narrowed(piece.domain)?;
@@ -108,9 +111,13 @@ fn append_pieces(
     requires readable { IsReadable (signatures_of vars.now) [] (view tree.now) }
     requires domain { All IsWithinLimits domain.now.rows }
     requires few { piece_count (view tree.now) ≤ 256 }
-    ensures added { OnOk result (AreAdded domain.now.dim (with_rows domain.now.rows (parts (signatures_of vars.now) [] (view tree.now))) (map view_piece pieces.old) (map view_piece pieces.new)) }
-    ensures narrow { OnOk result (AreNarrow (parts_measured domain.now.dim (with_rows domain.now.rows (parts (signatures_of vars.now) [] (view tree.now))))) }
-    ensures wide { IfErr result (IsWide (parts_measured domain.now.dim (with_rows domain.now.rows (parts (signatures_of vars.now) [] (view tree.now))))) }
+    ensures added { OnOk result (AreAdded domain.now.dim
+        (with_rows domain.now.rows (parts (signatures_of vars.now) [] (view tree.now)))
+        (map view_piece pieces.old) (map view_piece pieces.new)) }
+    ensures narrow { OnOk result (AreNarrow (parts_measured domain.now.dim
+        (with_rows domain.now.rows (parts (signatures_of vars.now) [] (view tree.now))))) }
+    ensures wide { IfErr result (IsWide (parts_measured domain.now.dim
+        (with_rows domain.now.rows (parts (signatures_of vars.now) [] (view tree.now))))) }
 {
     let count = piece_count(tree);
     for number in 0..count {
@@ -126,11 +133,15 @@ fn pieces_made(
     domain: &Poly,
     equation: &[Piece],
 ) -> Result<List<Piece>, NormalFault>
-    requires parted { All (IsParted (signatures_of vars.now) domain.now.dim) (map view_piece equation.now) }
+    requires parted { All (IsParted (signatures_of vars.now) domain.now.dim)
+        (map view_piece equation.now) }
     requires domain { All IsWithinLimits domain.now.rows }
-    ensures made { IfOk result (λ made. AreMade domain.now.dim (held_parts (signatures_of vars.now) domain.now.rows (map view_piece equation.now)) (map view_piece made)) }
-    ensures narrow { OnOk result (AreNarrow (parts_measured domain.now.dim (held_parts (signatures_of vars.now) domain.now.rows (map view_piece equation.now)))) }
-    ensures wide { IfErr result (IsWide (parts_measured domain.now.dim (held_parts (signatures_of vars.now) domain.now.rows (map view_piece equation.now)))) }
+    ensures made { IfOk result (λ made. AreMade domain.now.dim (held_parts (signatures_of vars.now)
+        domain.now.rows (map view_piece equation.now)) (map view_piece made)) }
+    ensures narrow { OnOk result (AreNarrow (parts_measured domain.now.dim
+        (held_parts (signatures_of vars.now) domain.now.rows (map view_piece equation.now)))) }
+    ensures wide { IfErr result (IsWide (parts_measured domain.now.dim
+        (held_parts (signatures_of vars.now) domain.now.rows (map view_piece equation.now)))) }
 {
     let mut pieces = List::new(alloc);
     for piece in equation {
@@ -143,9 +154,12 @@ fn pieces_made(
 // A piece with its rows in the sets of its reductions.
 fn filled_piece(alloc: Global, piece: &Piece) -> Result<Piece, NormalFault>
     requires { IsHolder (view_piece piece.now) }
-    ensures pieces { IfOk result (λ q. (dim : ℕ) (p : Part) → IsMade dim p (view_piece piece.now) → IsPieceOfPart dim (filled_part p) (view_piece q)) }
-    ensures narrow { OnOk result ((dim : ℕ) (p : Part) → IsMade dim p (view_piece piece.now) → AreNarrow (map of_set (body_sets (filled p.rows p.tree)))) }
-    ensures wide { IfErr result (λ fault. (dim : ℕ) (p : Part) → IsMade dim p (view_piece piece.now) → IsWide (map of_set (body_sets (filled p.rows p.tree))) fault) }
+    ensures pieces { IfOk result (λ q. (dim : ℕ) (p : Part)
+        → IsMade dim p (view_piece piece.now) → IsPieceOfPart dim (filled_part p) (view_piece q)) }
+    ensures narrow { OnOk result ((dim : ℕ) (p : Part) → IsMade dim p (view_piece piece.now)
+        → AreNarrow (map of_set (body_sets (filled p.rows p.tree)))) }
+    ensures wide { IfErr result (λ fault. (dim : ℕ) (p : Part) → IsMade dim p (view_piece piece.now)
+        → IsWide (map of_set (body_sets (filled p.rows p.tree))) fault) }
 {
     let tree = filled(alloc, &piece.domain, &piece.tree)?;
     let domain = copy_set(alloc, &piece.domain)?;
@@ -155,9 +169,13 @@ fn filled_piece(alloc: Global, piece: &Piece) -> Result<Piece, NormalFault>
 // The pieces with their rows in the sets of their reductions.
 fn trees_filled(alloc: Global, pieces: &[Piece]) -> Result<List<Piece>, NormalFault>
     requires { All IsHolder (map view_piece pieces.now) }
-    ensures pieces { IfOk result (λ all_pieces. (dim : ℕ) (ps : Items Part) → AreMade dim ps (map view_piece pieces.now) → ArePiecesOfParts dim (map filled_part ps) (map view_piece all_pieces)) }
-    ensures narrow { OnOk result ((dim : ℕ) (ps : Items Part) → AreMade dim ps (map view_piece pieces.now) → AreNarrow (bodies_measured ps)) }
-    ensures wide { IfErr result (λ fault. (dim : ℕ) (ps : Items Part) → AreMade dim ps (map view_piece pieces.now) → IsWide (bodies_measured ps) fault) }
+    ensures pieces { IfOk result (λ all_pieces. (dim : ℕ) (ps : Items Part)
+        → AreMade dim ps (map view_piece pieces.now)
+        → ArePiecesOfParts dim (map filled_part ps) (map view_piece all_pieces)) }
+    ensures narrow { OnOk result ((dim : ℕ) (ps : Items Part)
+        → AreMade dim ps (map view_piece pieces.now) → AreNarrow (bodies_measured ps)) }
+    ensures wide { IfErr result (λ fault. (dim : ℕ) (ps : Items Part)
+        → AreMade dim ps (map view_piece pieces.now) → IsWide (bodies_measured ps) fault) }
 {
     let mut all_pieces = List::new(alloc);
     for piece in pieces {
@@ -171,9 +189,12 @@ fn with_all_pieces(alloc: Global, flat: &Flat, var: &Var) -> Result<Var, NormalF
     requires system { IsWellFormed (view_system flat.now) }
     requires variable { IsWellFormedVariable (view_system flat.now) (view_variable var.now) }
     requires few { IsOfFew (view_variable var.now) }
-    ensures pieces { IfOk result (λ to. HasAllPieces (signatures (view_system flat.now)) (view_variable var.now) (view_variable to)) }
-    ensures narrow { OnOk result (AreNarrow (measured (signatures (view_system flat.now)) (view_variable var.now))) }
-    ensures wide { IfErr result (IsWide (measured (signatures (view_system flat.now)) (view_variable var.now))) }
+    ensures pieces { IfOk result (λ to. HasAllPieces
+        (signatures (view_system flat.now)) (view_variable var.now) (view_variable to)) }
+    ensures narrow { OnOk result
+        (AreNarrow (measured (signatures (view_system flat.now)) (view_variable var.now))) }
+    ensures wide { IfErr result
+        (IsWide (measured (signatures (view_system flat.now)) (view_variable var.now))) }
 {
     let equation = var.pieces.as_slice();
     domain_fits(alloc, &var.domain)?;
@@ -187,7 +208,8 @@ fn with_all_pieces(alloc: Global, flat: &Flat, var: &Var) -> Result<Var, NormalF
 pub(crate) fn all_pieces(alloc: Global, flat: &Flat) -> Result<List<Var>, NormalFault>
     requires well_formed { IsWellFormed (view_system flat.now) }
     requires few { HasFew (view_system flat.now).variables }
-    ensures pieces { IfOk result (λ made. HaveAllPieces (signatures (view_system flat.now)) (view_system flat.now).variables (map view_variable made)) }
+    ensures pieces { IfOk result (λ made. HaveAllPieces (signatures (view_system flat.now))
+        (view_system flat.now).variables (map view_variable made)) }
     ensures narrow { OnOk result (HasNarrowSets (view_system flat.now)) }
     ensures wide { IfErr result (IsWideIn (view_system flat.now)) }
 {

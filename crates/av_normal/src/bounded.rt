@@ -74,7 +74,8 @@ fn extent_fits(extent: &Option<Bounds>) -> Result<(), NormalFault>
 /// Tries each box.
 pub(crate) fn boxes_fit(extents: &[Option<Bounds>]) -> Result<(), NormalFault>
     ensures fit { OnOk result (AllByRecursion IsSmallExtent extents.now) }
-    ensures over { IfErr result (λ fault. IsFirstOf IsSmallExtent (IsLargeExtent fault) extents.now) }
+    ensures over { IfErr result (λ fault.
+        IsFirstOf IsSmallExtent (IsLargeExtent fault) extents.now) }
 {
     for extent in extents {
         extent_fits(extent)?;

@@ -78,7 +78,8 @@ pub fn prepend_map(alloc: Global, own: &Map, under: &[Map]) -> Result<List<Map>,
 /// Tries each composed map of a tree, in the order of the text.
 pub(crate) fn maps_fit(alloc: Global, under: &[Map], tree: &Tree) -> Result<(), NormalFault>
     requires { StandsUnder under.now (view tree.now) }
-    ensures narrow { OnOk result (AreNarrow (map of_map (composed_maps under.now (view tree.now)))) }
+    ensures narrow { OnOk result
+        (AreNarrow (map of_map (composed_maps under.now (view tree.now)))) }
     ensures first { IfErr result (IsWide (map of_map (composed_maps under.now (view tree.now)))) }
 {
     match tree {

@@ -38,8 +38,8 @@ fn common(own: &Bounds, within: &Bounds) -> Bounds
     requires high { AtMost 4095 within.now.high }
     ensures low { AtMost 4095 result.low }
     ensures high { AtMost 4095 result.high }
-    ensures between { (z : Items ℤ) → IsBetween own.now.low own.now.high z → IsBetween within.now.low within.now.high z →
-        IsBetween result.low result.high z }
+    ensures between { (z : Items ℤ) → IsBetween own.now.low own.now.high z
+        → IsBetween within.now.low within.now.high z → IsBetween result.low result.high z }
 {
     let least = own.low;
     let most = own.high;

@@ -15,7 +15,8 @@ use av_poly::Poly;
 
 /// Tries the numbers of the rows, and then how many there are.
 pub(crate) fn rows_fit(rows: &[Form]) -> Result<(), NormalFault>
-    ensures fit { OnOk result ((greatest_coefficient rows.now ≤ 1024) × (greatest_constant rows.now ≤ 2 ^ 20) × (length rows.now ≤ 20)) }
+    ensures fit { OnOk result ((greatest_coefficient rows.now ≤ 1024)
+        × (greatest_constant rows.now ≤ 2 ^ 20) × (length rows.now ≤ 20)) }
     ensures wide { IfErr result (IsWideRows rows.now) }
 {
     let coefficient = most_coefficient(rows);
@@ -38,7 +39,8 @@ pub(crate) fn narrowed(set: Poly) -> Result<Poly, NormalFault>
     ensures normalised { IfOk result (λ to. AreNormalised set.dim set.rows to.rows) }
     ensures limits { IfOk result (λ to. All IsWithinLimits to.rows) }
     ensures few { IfOk result (λ to. length to.rows ≤ 20) }
-    ensures greatest { IfOk result (λ to. (greatest_coefficient to.rows ≤ 1024) × (greatest_constant to.rows ≤ 2 ^ 20)) }
+    ensures greatest { IfOk result (λ to. (greatest_coefficient to.rows ≤ 1024)
+        × (greatest_constant to.rows ≤ 2 ^ 20)) }
     ensures narrow { OnOk result (IsNarrow (of_set set)) }
     ensures wide { IfErr result (IsWideOne (of_set set)) }
 {

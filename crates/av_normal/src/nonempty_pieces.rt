@@ -26,7 +26,8 @@ fn pieces_within(alloc: Global, pieces: &[Piece], within: &Bounds) -> Result<Lis
     requires low { AtMost 4095 within.now.low }
     requires high { AtMost 4095 within.now.high }
     requires inside { AllByRecursion (IsInside within.now) (map view_piece pieces.now) }
-    ensures { IfOk result (λ made. AreNonemptyPieces (map view_piece pieces.now) (map view_piece made)) }
+    ensures { IfOk result (λ made.
+        AreNonemptyPieces (map view_piece pieces.now) (map view_piece made)) }
 {
     let mut kept = List::new(alloc);
     for piece in pieces {
@@ -40,7 +41,8 @@ fn pieces_within(alloc: Global, pieces: &[Piece], within: &Bounds) -> Result<Lis
 // The pieces of a variable that have a point; where its domain has no box, none has one.
 fn kept_pieces(alloc: Global, var: &Var, extent: &Option<Bounds>) -> Result<List<Piece>, Memory>
     requires { IsHeld (view_variable var.now) extent.now }
-    ensures { IfOk result (λ made. AreNonemptyPieces (view_variable var.now).pieces (map view_piece made)) }
+    ensures { IfOk result (λ made.
+        AreNonemptyPieces (view_variable var.now).pieces (map view_piece made)) }
 {
     match extent {
         Some(within) => pieces_within(alloc, var.pieces.as_slice(), within),
@@ -64,7 +66,8 @@ pub(crate) fn kept_variables(
     extents: &[Option<Bounds>],
 ) -> Result<List<Var>, Memory>
     requires { Pairwise IsHeld (map view_variable vars.now) extents.now }
-    ensures { IfOk result (λ made. Pairwise HasNonemptyPieces (map view_variable vars.now) (map view_variable made)) }
+    ensures { IfOk result (λ made.
+        Pairwise HasNonemptyPieces (map view_variable vars.now) (map view_variable made)) }
 {
     let mut kept = List::new(alloc);
     for (var, extent) in vars.iter().zip(extents) {

@@ -35,8 +35,10 @@ pub(crate) fn piece_at(
     requires number { number < piece_count (view tree.now) }
     requires few { piece_count (view tree.now) ≤ 256 }
     ensures dim { IfOk result (λ p. p.domain.dim ≡ domain.now.dim) }
-    ensures rows { IfOk result (λ p. p.domain.rows ≡ domain.now.rows ++ (part_at (parts (signatures_of vars.now) [] (view tree.now)) number).rows) }
-    ensures tree { IfOk result (λ p. view p.tree ≡ (part_at (parts (signatures_of vars.now) [] (view tree.now)) number).tree) }
+    ensures rows { IfOk result (λ p. p.domain.rows ≡ domain.now.rows
+        ++ (part_at (parts (signatures_of vars.now) [] (view tree.now)) number).rows) }
+    ensures tree { IfOk result (λ p.
+        view p.tree ≡ (part_at (parts (signatures_of vars.now) [] (view tree.now)) number).tree) }
 {
     let mut rows = copy_rows(alloc, domain.rows.as_slice())?;
     let tree = part_of(alloc, vars, &[], tree, number, &mut rows)?;
@@ -58,15 +60,17 @@ fn split(number: u128, count: u128) -> (u128, u128)
 
 // The numbers of two operands of a tree; the first is slowest.
 fn two_numbers(number: u128, right: &Tree) -> (u128, u128)
-    ensures { 0 < piece_count (view right.now) → piece_count (view right.now) ≤ 256 →
-        (result.0 ≡ number / piece_count (view right.now)) × (result.1 ≡ number % piece_count (view right.now)) }
+    ensures { 0 < piece_count (view right.now)
+        → piece_count (view right.now) ≤ 256 → (result.0 ≡ number / piece_count (view right.now))
+        × (result.1 ≡ number % piece_count (view right.now)) }
 {
     split(number, piece_count(right))
 }
 
 // The numbers of four operands of a tree; the first is slowest.
 fn four_numbers(number: u128, right: &Tree, yes: &Tree, no: &Tree) -> (u128, u128, u128, u128)
-    ensures { AreFourNumbers number (piece_count (view right.now)) (piece_count (view yes.now)) (piece_count (view no.now)) result.0 result.1 result.2 result.3 }
+    ensures { AreFourNumbers number (piece_count (view right.now)) (piece_count (view yes.now))
+        (piece_count (view no.now)) result.0 result.1 result.2 result.3 }
 {
     let fourth_count = piece_count(no);
     let third_count = piece_count(yes).saturating_mul(fourth_count);
@@ -85,10 +89,12 @@ fn append_read(
     map: &Map,
     rows: &mut List<Form>,
 ) -> Result<(), Memory>
-    requires fits { dimension_of (slice_get (signatures_of vars.now) place) ≡ Some (length map.now.rows) }
+    requires fits { dimension_of (slice_get (signatures_of vars.now) place)
+        ≡ Some (length map.now.rows) }
     requires rows { All IsWithinLimits (rows_of (slice_get (signatures_of vars.now) place)) }
     requires map { All IsWithinLimits map.now.rows }
-    ensures rows { OnOk result (rows.new ≡ rows.old ++ rows_before map.now (rows_of (slice_get (signatures_of vars.now) place))) }
+    ensures rows { OnOk result (rows.new
+        ≡ rows.old ++ rows_before map.now (rows_of (slice_get (signatures_of vars.now) place))) }
     ensures small { OnOk result (All IsSmall rows.old → All IsSmall rows.new) }
 {
     let read = &vars[place as usize];
@@ -98,7 +104,8 @@ fn append_read(
 // The fold of a body along a map over the points of these rows.
 fn reduction(op: Op, map: &Map, body: Box<Tree>, rows: List<Form>) -> Tree
     requires small { All IsSmall rows }
-    ensures { view result ≡ flat.reduction op map.now (view body.value) (record { dim = map.now.from; rows = rows }) }
+    ensures { view result ≡ flat.reduction op map.now
+        (view body.value) (record { dim = map.now.from; rows = rows }) }
 {
     let set = Poly {
         dim: map.from,
@@ -119,7 +126,8 @@ fn part_of(
 ) -> Result<Tree, Memory>
     requires readable { IsReadable (signatures_of vars.now) under.now (view tree.now) }
     requires number { HasPart (view tree.now) number }
-    ensures part { IfOk result (λ t. IsPartAt (signatures_of vars.now) under.now (view tree.now) number rows.old rows.new (view t)) }
+    ensures part { IfOk result (λ t. IsPartAt
+        (signatures_of vars.now) under.now (view tree.now) number rows.old rows.new (view t)) }
     ensures small { OnOk result (All IsSmall rows.old → All IsSmall rows.new) }
 {
     match tree {
@@ -179,9 +187,11 @@ fn part_of_case(
     number: u128,
     rows: &mut List<Form>,
 ) -> Result<Tree, Memory>
-    requires readable { AreReadable (signatures_of vars.now) under.now (trees_of (map view branches.now)) }
+    requires readable { AreReadable (signatures_of vars.now) under.now
+        (trees_of (map view branches.now)) }
     requires number { HasPart (cases (trees_of (map view branches.now))) number }
-    ensures part { IfOk result (λ t. IsPartAt (signatures_of vars.now) under.now (cases (trees_of (map view branches.now))) number rows.old rows.new (view t)) }
+    ensures part { IfOk result (λ t. IsPartAt (signatures_of vars.now) under.now
+        (cases (trees_of (map view branches.now))) number rows.old rows.new (view t)) }
     ensures small { OnOk result (All IsSmall rows.old → All IsSmall rows.new) }
 {
     let mut left = number;
@@ -206,7 +216,8 @@ fn boxed_part(
 ) -> Result<Box<Tree>, Memory>
     requires readable { IsReadable (signatures_of vars.now) under.now (view tree.now) }
     requires number { HasPart (view tree.now) number }
-    ensures part { IfOk result (λ t. IsPartAt (signatures_of vars.now) under.now (view tree.now) number rows.old rows.new (view t.value)) }
+    ensures part { IfOk result (λ t. IsPartAt (signatures_of vars.now) under.now
+        (view tree.now) number rows.old rows.new (view t.value)) }
     ensures small { OnOk result (All IsSmall rows.old → All IsSmall rows.new) }
 {
     let part = part_of(alloc, vars, under, tree, number, rows)?;

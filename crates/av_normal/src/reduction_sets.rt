@@ -31,12 +31,15 @@ pub(crate) fn inner_set(
     requires rows { All IsWithinLimits holder.now.rows }
     ensures dim { IfOk result (λ to. to.dim ≡ own.now.from) }
     ensures limits { IfOk result (λ to. All IsWithinLimits to.rows) }
-    ensures normalised { IfOk result (λ to. (rows : Items Form) → AreNormalised holder.now.dim rows holder.now.rows →
-        AreNormalised own.now.from (inner_of own.now rows set.now).rows to.rows) }
-    ensures narrow { OnOk result ((rows : Items Form) → AreNormalised holder.now.dim rows holder.now.rows →
-        IsNarrow (of_set (inner_of own.now rows set.now))) }
-    ensures wide { IfErr result (λ fault. (rows : Items Form) → AreNormalised holder.now.dim rows holder.now.rows →
-        IsWide (of_set (inner_of own.now rows set.now) ∷ []) fault) }
+    ensures normalised { IfOk result (λ to. (rows : Items Form)
+        → AreNormalised holder.now.dim rows holder.now.rows
+        → AreNormalised own.now.from (inner_of own.now rows set.now).rows to.rows) }
+    ensures narrow { OnOk result ((rows : Items Form)
+        → AreNormalised holder.now.dim rows holder.now.rows
+        → IsNarrow (of_set (inner_of own.now rows set.now))) }
+    ensures wide { IfErr result (λ fault. (rows : Items Form)
+        → AreNormalised holder.now.dim rows holder.now.rows
+        → IsWide (of_set (inner_of own.now rows set.now) ∷ []) fault) }
 {
     let held = holder.preimage(alloc, own)?;
     let both = held.meet(alloc, set)?;
@@ -49,12 +52,15 @@ pub(crate) fn inner_set(
 pub(crate) fn filled(alloc: Global, holder: &Poly, tree: &Tree) -> Result<Tree, NormalFault>
     requires fillable { IsFillable holder.now.dim (view tree.now) }
     requires rows { All IsWithinLimits holder.now.rows }
-    ensures same { IfOk result (λ t. (rows : Items Form) → AreNormalised holder.now.dim rows holder.now.rows →
-        HasNormalSets (filled rows (view tree.now)) (view t)) }
-    ensures narrow { OnOk result ((rows : Items Form) → AreNormalised holder.now.dim rows holder.now.rows →
-        AreNarrow (map of_set (body_sets (filled rows (view tree.now))))) }
-    ensures wide { IfErr result (λ fault. (rows : Items Form) → AreNormalised holder.now.dim rows holder.now.rows →
-        IsWide (map of_set (body_sets (filled rows (view tree.now)))) fault) }
+    ensures same { IfOk result (λ t. (rows : Items Form)
+        → AreNormalised holder.now.dim rows holder.now.rows
+        → HasNormalSets (filled rows (view tree.now)) (view t)) }
+    ensures narrow { OnOk result ((rows : Items Form)
+        → AreNormalised holder.now.dim rows holder.now.rows
+        → AreNarrow (map of_set (body_sets (filled rows (view tree.now))))) }
+    ensures wide { IfErr result (λ fault. (rows : Items Form)
+        → AreNormalised holder.now.dim rows holder.now.rows
+        → IsWide (map of_set (body_sets (filled rows (view tree.now)))) fault) }
 {
     match tree {
         Tree::Binary { sign, left, right } => {
@@ -88,12 +94,15 @@ pub(crate) fn filled(alloc: Global, holder: &Poly, tree: &Tree) -> Result<Tree, 
 fn boxed(alloc: Global, holder: &Poly, tree: &Tree) -> Result<Box<Tree>, NormalFault>
     requires fillable { IsFillable holder.now.dim (view tree.now) }
     requires rows { All IsWithinLimits holder.now.rows }
-    ensures same { IfOk result (λ t. (rows : Items Form) → AreNormalised holder.now.dim rows holder.now.rows →
-        HasNormalSets (filled rows (view tree.now)) (view t.value)) }
-    ensures narrow { OnOk result ((rows : Items Form) → AreNormalised holder.now.dim rows holder.now.rows →
-        AreNarrow (map of_set (body_sets (filled rows (view tree.now))))) }
-    ensures wide { IfErr result (λ fault. (rows : Items Form) → AreNormalised holder.now.dim rows holder.now.rows →
-        IsWide (map of_set (body_sets (filled rows (view tree.now)))) fault) }
+    ensures same { IfOk result (λ t. (rows : Items Form)
+        → AreNormalised holder.now.dim rows holder.now.rows
+        → HasNormalSets (filled rows (view tree.now)) (view t.value)) }
+    ensures narrow { OnOk result ((rows : Items Form)
+        → AreNormalised holder.now.dim rows holder.now.rows
+        → AreNarrow (map of_set (body_sets (filled rows (view tree.now))))) }
+    ensures wide { IfErr result (λ fault. (rows : Items Form)
+        → AreNormalised holder.now.dim rows holder.now.rows
+        → IsWide (map of_set (body_sets (filled rows (view tree.now)))) fault) }
 {
     let made = filled(alloc, holder, tree)?;
     Ok(Box::new(alloc, made)?)

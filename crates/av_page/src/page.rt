@@ -89,7 +89,8 @@ impl Page {
     // Has a piece wait, for which there is room.
     fn keep(&mut self, piece: &[u8])
         requires { length self.old.waiting + length piece.now ≤ 4096 }
-        ensures { self.new ≡ record { waiting = self.old.waiting ++ piece.now; failed = self.old.failed } }
+        ensures { self.new
+            ≡ record { waiting = self.old.waiting ++ piece.now; failed = self.old.failed } }
     {
         let end = self.used + piece.len();
         self.room[self.used..end].copy_from_slice(piece);
@@ -99,7 +100,8 @@ impl Page {
 
 // Writes the bytes, unless the sink has failed, and says whether it has by now.
 fn offer<K: Sink>(sink: &mut K, bytes: &[u8], failed: bool) -> bool
-    ensures { Puts (K.state sink.old) (K.state sink.new) (record { waiting = []; failed = failed }) (record { waiting = []; failed = result }) bytes.now }
+    ensures { Puts (K.state sink.old) (K.state sink.new) (record { waiting = []; failed = failed })
+        (record { waiting = []; failed = result }) bytes.now }
 {
     if failed {
         return true;

@@ -76,7 +76,8 @@ impl<'t, 'a> Cursor<'t, 'a> {
     pub(crate) fn text(&self) -> &'a [u8]
         ensures text { result.now ≡ text_of (views self.now.rest.now) }
         ensures ascii { IsAscii result.now }
-        ensures in_range { begins kinds.Number (views self.now.rest.now) ≡ true → number_of result.now < 2 ^ 64 }
+        ensures in_range { begins kinds.Number (views self.now.rest.now) ≡ true
+            → number_of result.now < 2 ^ 64 }
     {
         match self.rest {
             [first, ..] => first.text,
@@ -131,7 +132,8 @@ impl<'t, 'a> Cursor<'t, 'a> {
     /// A token of this kind.
     #[tactic(auto, unfolding(crate::specs::inner::Reader::expect))]
     pub(crate) fn expect(&mut self, kind: TokenKind) -> Result<Token<'a>, Stop>
-        ensures gives { Gives (λ x. (view x, views self.new.rest.now)) result (expect kind (views self.old.rest.now)) }
+        ensures gives { Gives (λ x. (view x, views self.new.rest.now)) result
+            (expect kind (views self.old.rest.now)) }
         ensures kind { IfOk result (λ x. x.kind ≡ kind) }
     {
         match self.rest {
@@ -145,7 +147,8 @@ impl<'t, 'a> Cursor<'t, 'a> {
 
     #[tactic(auto, unfolding(crate::specs::inner::Reader::expect_with))]
     fn expect_with(&mut self, kind: TokenKind, text: &[u8]) -> Result<Token<'a>, Stop>
-        ensures { Gives (λ x. (view x, views self.new.rest.now)) result (expect_with kind text.now (views self.old.rest.now)) }
+        ensures { Gives (λ x. (view x, views self.new.rest.now)) result
+            (expect_with kind text.now (views self.old.rest.now)) }
     {
         match self.rest {
             [first, rest @ ..] if first.kind == kind && first.text == text => {
@@ -158,14 +161,16 @@ impl<'t, 'a> Cursor<'t, 'a> {
 
     /// This symbol.
     pub(crate) fn symbol(&mut self, text: &[u8]) -> Result<Token<'a>, Stop>
-        ensures { Gives (λ x. (view x, views self.new.rest.now)) result (expect_symbol text.now (views self.old.rest.now)) }
+        ensures { Gives (λ x. (view x, views self.new.rest.now)) result
+            (expect_symbol text.now (views self.old.rest.now)) }
     {
         self.expect_with(TokenKind::Symbol, text)
     }
 
     /// This reserved word.
     pub(crate) fn word(&mut self, text: &[u8]) -> Result<Token<'a>, Stop>
-        ensures { Gives (λ x. (view x, views self.new.rest.now)) result (expect_word text.now (views self.old.rest.now)) }
+        ensures { Gives (λ x. (view x, views self.new.rest.now)) result
+            (expect_word text.now (views self.old.rest.now)) }
     {
         self.expect_with(TokenKind::Reserved, text)
     }

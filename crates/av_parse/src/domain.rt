@@ -56,7 +56,8 @@ impl<'t, 'a> Cursor<'t, 'a> {
     // `"(" index { "," index } ")"`.
     #[tactic(auto, unfolding(crate::specs::inner::IndexReader::list_of))]
     fn list(&mut self) -> Result<List<IndexExpr>, Stop>
-        ensures { Gives (λ es. (es, views self.new.rest.now)) result (list_of (views self.old.rest.now)) }
+        ensures { Gives (λ es. (es, views self.new.rest.now)) result
+            (list_of (views self.old.rest.now)) }
     {
         self.symbol(b"(")?;
         let members = self.indices(FURTHER_MEMBERS)?;
@@ -66,7 +67,8 @@ impl<'t, 'a> Cursor<'t, 'a> {
 
     #[tactic(auto, unfolding(crate::specs::inner::IndexReader::side_of))]
     fn side(&mut self) -> Result<List<IndexExpr>, Stop>
-        ensures { Gives (λ es. (es, views self.new.rest.now)) result (side_of (views self.old.rest.now)) }
+        ensures { Gives (λ es. (es, views self.new.rest.now)) result
+            (side_of (views self.old.rest.now)) }
     {
         if self.is_symbol(b"(") {
             return self.list();
@@ -108,7 +110,8 @@ impl<'t, 'a> Cursor<'t, 'a> {
 
     #[tactic(auto, unfolding(crate::specs::inner::IndexReader::relation_by))]
     fn relation(&mut self) -> Result<Relation, Stop>
-        ensures { Gives (λ r. (r, views self.new.rest.now)) result (relation_of (views self.old.rest.now)) }
+        ensures { Gives (λ r. (r, views self.new.rest.now)) result
+            (relation_of (views self.old.rest.now)) }
     {
         match self.relation_at() {
             None => Err(self.syntax()),
@@ -121,7 +124,8 @@ impl<'t, 'a> Cursor<'t, 'a> {
 
     // `relation side { relation side }`, behind a side, appended to these constraints.
     fn chain(&mut self, found: &mut List<Constraint>, first: List<IndexExpr>) -> Result<(), Stop>
-        ensures { Gives (λ _. (found.new, views self.new.rest.now)) result (with_front found.old (chain_of (length (views self.old.rest.now)) first (views self.old.rest.now))) }
+        ensures { Gives (λ _. (found.new, views self.new.rest.now)) result (with_front found.old
+            (chain_of (length (views self.old.rest.now)) first (views self.old.rest.now))) }
     {
         let mut lefts = first;
         let mut room = self.left();
@@ -147,7 +151,8 @@ impl<'t, 'a> Cursor<'t, 'a> {
     // `side relation side { relation side }`, appended to these constraints.
     #[tactic(auto, using(crate::proofs::Lists::stops_then), unfolding(crate::specs::inner::IndexReader::constraint_of))]
     fn constraint(&mut self, found: &mut List<Constraint>) -> Result<(), Stop>
-        ensures { Gives (λ _. (found.new, views self.new.rest.now)) result (with_front found.old (constraint_of (views self.old.rest.now))) }
+        ensures { Gives (λ _. (found.new, views self.new.rest.now)) result
+            (with_front found.old (constraint_of (views self.old.rest.now))) }
     {
         let first = self.side()?;
         self.chain(found, first)
@@ -155,7 +160,8 @@ impl<'t, 'a> Cursor<'t, 'a> {
 
     // `constraint { ";" constraint } [ ";" ]`.
     fn constraints(&mut self) -> Result<List<Constraint>, Stop>
-        ensures { Gives (λ cs. (cs, views self.new.rest.now)) result (constraints_of (length (views self.old.rest.now)) (views self.old.rest.now)) }
+        ensures { Gives (λ cs. (cs, views self.new.rest.now)) result
+            (constraints_of (length (views self.old.rest.now)) (views self.old.rest.now)) }
     {
         let mut found = List::new(self.alloc);
         let mut room = self.left();
@@ -176,7 +182,8 @@ impl<'t, 'a> Cursor<'t, 'a> {
     // What stands behind the `|`.
     #[tactic(auto, unfolding(crate::specs::inner::IndexReader::bar_of))]
     fn bar(&mut self) -> Result<List<Constraint>, Stop>
-        ensures { Gives (λ cs. (cs, views self.new.rest.now)) result (bar_of (views self.old.rest.now)) }
+        ensures { Gives (λ cs. (cs, views self.new.rest.now)) result
+            (bar_of (views self.old.rest.now)) }
     {
         if self.is_symbol(b"}") {
             return Ok(List::new(self.alloc));
@@ -186,7 +193,8 @@ impl<'t, 'a> Cursor<'t, 'a> {
 
     #[tactic(auto, unfolding(crate::specs::inner::IndexReader::conditions_of))]
     fn conditions(&mut self) -> Result<List<Constraint>, Stop>
-        ensures { Gives (λ cs. (cs, views self.new.rest.now)) result (conditions_of (views self.old.rest.now)) }
+        ensures { Gives (λ cs. (cs, views self.new.rest.now)) result
+            (conditions_of (views self.old.rest.now)) }
     {
         if !self.is_symbol(b"|") {
             return Ok(List::new(self.alloc));
@@ -198,7 +206,8 @@ impl<'t, 'a> Cursor<'t, 'a> {
     /// What stands behind the `{` of a domain, which has this place.
     #[tactic(auto, unfolding(crate::specs::inner::IndexReader::domain_rest_of))]
     pub(crate) fn domain_rest(&mut self, place: Place) -> Result<DomainText, Stop>
-        ensures { Gives (λ d. (d, views self.new.rest.now)) result (domain_rest_of place (views self.old.rest.now)) }
+        ensures { Gives (λ d. (d, views self.new.rest.now)) result
+            (domain_rest_of place (views self.old.rest.now)) }
     {
         let names = self.optional_names()?;
         let constraints = self.conditions()?;
@@ -213,7 +222,8 @@ impl<'t, 'a> Cursor<'t, 'a> {
     /// `"{" [ names ] [ "|" .. ] "}"`.
     #[tactic(auto, unfolding(crate::specs::inner::IndexReader::domain_of))]
     pub(crate) fn domain(&mut self) -> Result<DomainText, Stop>
-        ensures { Gives (λ d. (d, views self.new.rest.now)) result (domain_of (views self.old.rest.now)) }
+        ensures { Gives (λ d. (d, views self.new.rest.now)) result
+            (domain_of (views self.old.rest.now)) }
     {
         let open = self.symbol(b"{")?;
         self.domain_rest(open.place)

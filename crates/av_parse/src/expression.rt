@@ -44,7 +44,8 @@ impl<'t, 'a> Cursor<'t, 'a> {
     // The `(` behind `min`, `max` or `reduce`, inside the form.
     #[tactic(auto, unfolding(crate::specs::inner::ExpressionReader::readers))]
     fn opening(&mut self, levels: u32) -> Result<Token<'a>, Stop>
-        ensures { Gives (λ x. (token_view x, views self.new.rest.now)) result ((readers levels).opening (views self.old.rest.now)) }
+        ensures { Gives (λ x. (token_view x, views self.new.rest.now)) result
+            ((readers levels).opening (views self.old.rest.now)) }
     {
         if levels == 0 {
             let may_stand = self.is_symbol(b"(");
@@ -55,7 +56,8 @@ impl<'t, 'a> Cursor<'t, 'a> {
 
     // What stands behind the `{` of a restriction, inside the form.
     fn restricting(&mut self, levels: u32, place: Place) -> Result<DomainText, Stop>
-        ensures { Gives (λ d. (d, views self.new.rest.now)) result ((readers levels).domain_rest place (views self.old.rest.now)) }
+        ensures { Gives (λ d. (d, views self.new.rest.now)) result
+            ((readers levels).domain_rest place (views self.old.rest.now)) }
     {
         if levels == 0 {
             let may_stand = self.begins_domain_rest();
@@ -67,7 +69,8 @@ impl<'t, 'a> Cursor<'t, 'a> {
     /// `expr`, one level deeper.
     #[cycle(expression)]
     pub(crate) fn deeper_expr(&mut self, levels: u32) -> Result<Expr, Stop>
-        ensures { Gives (λ e. (view e, views self.new.rest.now)) result ((readers levels).expr (views self.old.rest.now)) }
+        ensures { Gives (λ e. (view e, views self.new.rest.now)) result
+            ((readers levels).expr (views self.old.rest.now)) }
     {
         if levels == 0 {
             let may_stand = self.begins_expr();
@@ -78,7 +81,8 @@ impl<'t, 'a> Cursor<'t, 'a> {
 
     #[cycle(expression)]
     fn deeper_sum(&mut self, levels: u32) -> Result<Expr, Stop>
-        ensures { Gives (λ e. (view e, views self.new.rest.now)) result ((readers levels).sum (views self.old.rest.now)) }
+        ensures { Gives (λ e. (view e, views self.new.rest.now)) result
+            ((readers levels).sum (views self.old.rest.now)) }
     {
         if levels == 0 {
             let may_stand = self.begins_unary();
@@ -89,7 +93,8 @@ impl<'t, 'a> Cursor<'t, 'a> {
 
     #[cycle(expression)]
     fn deeper_product(&mut self, levels: u32) -> Result<Expr, Stop>
-        ensures gives { Gives (λ e. (view e, views self.new.rest.now)) result ((readers levels).product (views self.old.rest.now)) }
+        ensures gives { Gives (λ e. (view e, views self.new.rest.now)) result
+            ((readers levels).product (views self.old.rest.now)) }
         ensures room { IfOk result (λ _. 0 < levels) }
     {
         if levels == 0 {
@@ -101,7 +106,8 @@ impl<'t, 'a> Cursor<'t, 'a> {
 
     #[cycle(expression)]
     fn deeper_unary(&mut self, levels: u32) -> Result<Expr, Stop>
-        ensures gives { Gives (λ e. (view e, views self.new.rest.now)) result ((readers levels).unary (views self.old.rest.now)) }
+        ensures gives { Gives (λ e. (view e, views self.new.rest.now)) result
+            ((readers levels).unary (views self.old.rest.now)) }
         ensures room { IfOk result (λ _. 0 < levels) }
     {
         if levels == 0 {
@@ -114,7 +120,8 @@ impl<'t, 'a> Cursor<'t, 'a> {
     #[cycle(expression)]
     #[tactic(auto, unfolding(crate::specs::inner::ExpressionReader::expr_of))]
     fn expr(&mut self, levels: u32) -> Result<Expr, Stop>
-        ensures { Gives (λ e. (view e, views self.new.rest.now)) result (expr_of (readers levels) (views self.old.rest.now)) }
+        ensures { Gives (λ e. (view e, views self.new.rest.now)) result
+            (expr_of (readers levels) (views self.old.rest.now)) }
     {
         if self.is_symbol(b"{") {
             let place = self.skip();
@@ -131,7 +138,8 @@ impl<'t, 'a> Cursor<'t, 'a> {
     #[cycle(expression)]
     #[tactic(auto, unfolding(crate::specs::inner::ExpressionReader::restriction_of))]
     fn restriction(&mut self, levels: u32, place: Place) -> Result<Expr, Stop>
-        ensures { Gives (λ e. (view e, views self.new.rest.now)) result (restriction_of (readers levels) place (views self.old.rest.now)) }
+        ensures { Gives (λ e. (view e, views self.new.rest.now)) result
+            (restriction_of (readers levels) place (views self.old.rest.now)) }
     {
         let domain = self.restricting(levels, place)?;
         self.symbol(b":")?;
@@ -148,7 +156,8 @@ impl<'t, 'a> Cursor<'t, 'a> {
     #[cycle(expression)]
     #[tactic(auto, unfolding(crate::specs::inner::ExpressionReader::choice_of))]
     fn choice(&mut self, levels: u32, place: Place) -> Result<Expr, Stop>
-        ensures { Gives (λ e. (view e, views self.new.rest.now)) result (choice_of (readers levels) place (views self.old.rest.now)) }
+        ensures { Gives (λ e. (view e, views self.new.rest.now)) result
+            (choice_of (readers levels) place (views self.old.rest.now)) }
     {
         let left = self.deeper_sum(levels)?;
         let compare = self.compare()?;
@@ -169,7 +178,8 @@ impl<'t, 'a> Cursor<'t, 'a> {
 
     #[cycle(expression)]
     fn sum(&mut self, levels: u32) -> Result<Expr, Stop>
-        ensures { Gives (λ e. (view e, views self.new.rest.now)) result (sum_of (readers levels) (views self.old.rest.now)) }
+        ensures { Gives (λ e. (view e, views self.new.rest.now)) result
+            (sum_of (readers levels) (views self.old.rest.now)) }
     {
         let mut tree = self.product(levels)?;
         let mut room = levels;
@@ -184,7 +194,8 @@ impl<'t, 'a> Cursor<'t, 'a> {
 
     #[cycle(expression)]
     fn product(&mut self, levels: u32) -> Result<Expr, Stop>
-        ensures { Gives (λ e. (view e, views self.new.rest.now)) result (product_of (readers levels) (views self.old.rest.now)) }
+        ensures { Gives (λ e. (view e, views self.new.rest.now)) result
+            (product_of (readers levels) (views self.old.rest.now)) }
     {
         let mut tree = self.unary(levels)?;
         let mut room = levels;
@@ -200,7 +211,8 @@ impl<'t, 'a> Cursor<'t, 'a> {
     #[cycle(expression)]
     #[tactic(auto, unfolding(crate::specs::inner::ExpressionReader::unary_of))]
     fn unary(&mut self, levels: u32) -> Result<Expr, Stop>
-        ensures { Gives (λ e. (view e, views self.new.rest.now)) result (unary_of (readers levels) (views self.old.rest.now)) }
+        ensures { Gives (λ e. (view e, views self.new.rest.now)) result
+            (unary_of (readers levels) (views self.old.rest.now)) }
     {
         if self.is_symbol(b"-") {
             let place = self.skip();
@@ -213,7 +225,8 @@ impl<'t, 'a> Cursor<'t, 'a> {
     #[cycle(expression)]
     #[tactic(auto, unfolding(crate::specs::inner::ExpressionReader::postfix_of))]
     fn postfix(&mut self, levels: u32) -> Result<Expr, Stop>
-        ensures { Gives (λ e. (view e, views self.new.rest.now)) result (postfix_of (readers levels) (views self.old.rest.now)) }
+        ensures { Gives (λ e. (view e, views self.new.rest.now)) result
+            (postfix_of (readers levels) (views self.old.rest.now)) }
     {
         let text = self.text();
         if self.begins(TokenKind::Name) {
@@ -233,7 +246,8 @@ impl<'t, 'a> Cursor<'t, 'a> {
     #[cycle(expression)]
     #[tactic(auto, unfolding(crate::specs::inner::ExpressionReader::primary_of))]
     fn primary(&mut self, levels: u32) -> Result<Expr, Stop>
-        ensures { Gives (λ e. (view e, views self.new.rest.now)) result (primary_of (readers levels) (views self.old.rest.now)) }
+        ensures { Gives (λ e. (view e, views self.new.rest.now)) result
+            (primary_of (readers levels) (views self.old.rest.now)) }
     {
         if self.is_symbol(b"(") {
             self.skip();
@@ -262,7 +276,8 @@ impl<'t, 'a> Cursor<'t, 'a> {
     #[cycle(expression)]
     #[tactic(auto, unfolding(crate::specs::inner::ExpressionReader::parenthesis_of))]
     fn parenthesis(&mut self, levels: u32) -> Result<Expr, Stop>
-        ensures { Gives (λ e. (view e, views self.new.rest.now)) result (parenthesis_of (readers levels) (views self.old.rest.now)) }
+        ensures { Gives (λ e. (view e, views self.new.rest.now)) result
+            (parenthesis_of (readers levels) (views self.old.rest.now)) }
     {
         let tree = self.deeper_expr(levels)?;
         self.symbol(b")")?;
@@ -273,7 +288,8 @@ impl<'t, 'a> Cursor<'t, 'a> {
     #[cycle(expression)]
     #[tactic(auto, unfolding(crate::specs::inner::ExpressionReader::extreme_of))]
     fn extreme(&mut self, levels: u32, sign: Sign, place: Place) -> Result<Expr, Stop>
-        ensures { Gives (λ e. (view e, views self.new.rest.now)) result (extreme_of (readers levels) sign place (views self.old.rest.now)) }
+        ensures { Gives (λ e. (view e, views self.new.rest.now)) result
+            (extreme_of (readers levels) sign place (views self.old.rest.now)) }
     {
         self.opening(levels)?;
         let left = self.deeper_expr(levels)?;
@@ -290,7 +306,8 @@ impl<'t, 'a> Cursor<'t, 'a> {
         place: Place,
         left: Expr,
     ) -> Result<Expr, Stop>
-        ensures { Gives (λ e. (view e, views self.new.rest.now)) result (last_operand_of (readers levels) sign place (view left) (views self.old.rest.now)) }
+        ensures { Gives (λ e. (view e, views self.new.rest.now)) result
+            (last_operand_of (readers levels) sign place (view left) (views self.old.rest.now)) }
     {
         let right = self.parenthesis(levels)?;
         Ok(joined(self.alloc, sign, left, right, place)?)
@@ -300,7 +317,8 @@ impl<'t, 'a> Cursor<'t, 'a> {
     #[cycle(expression)]
     #[tactic(auto, unfolding(crate::specs::inner::ExpressionReader::cases_of))]
     fn cases(&mut self, levels: u32, place: Place) -> Result<Expr, Stop>
-        ensures { Gives (λ e. (view e, views self.new.rest.now)) result (cases_of (readers levels) place (views self.old.rest.now)) }
+        ensures { Gives (λ e. (view e, views self.new.rest.now)) result
+            (cases_of (readers levels) place (views self.old.rest.now)) }
     {
         let branches = self.branches(levels)?;
         self.word(b"esac")?;
@@ -309,14 +327,16 @@ impl<'t, 'a> Cursor<'t, 'a> {
 
     // The `;` behind a branch, the last one too.
     fn branch_end(&mut self) -> Result<Token<'a>, Stop>
-        ensures { Gives (λ x. (token_view x, views self.new.rest.now)) result (expect_symbol (codes ";") (views self.old.rest.now)) }
+        ensures { Gives (λ x. (token_view x, views self.new.rest.now)) result
+            (expect_symbol (codes ";") (views self.old.rest.now)) }
     {
         self.symbol(b";")
     }
 
     #[cycle(expression)]
     fn branches(&mut self, levels: u32) -> Result<List<Expr>, Stop>
-        ensures { Gives (λ es. (view_all es, views self.new.rest.now)) result (branches_of (readers levels) (length (views self.old.rest.now)) (views self.old.rest.now)) }
+        ensures { Gives (λ es. (view_all es, views self.new.rest.now)) result (branches_of
+            (readers levels) (length (views self.old.rest.now)) (views self.old.rest.now)) }
     {
         let mut found = List::new(self.alloc);
         let mut room = self.left();
@@ -336,7 +356,8 @@ impl<'t, 'a> Cursor<'t, 'a> {
     #[cycle(expression)]
     #[tactic(auto, unfolding(crate::specs::inner::ExpressionReader::reduction_of))]
     fn reduction(&mut self, levels: u32, place: Place) -> Result<Expr, Stop>
-        ensures { Gives (λ e. (view e, views self.new.rest.now)) result (reduction_of (readers levels) place (views self.old.rest.now)) }
+        ensures { Gives (λ e. (view e, views self.new.rest.now)) result
+            (reduction_of (readers levels) place (views self.old.rest.now)) }
     {
         self.opening(levels)?;
         let op = self.op()?;
@@ -349,7 +370,8 @@ impl<'t, 'a> Cursor<'t, 'a> {
     // `expr ")"`, behind the operator, the map and their commas.
     #[cycle(expression)]
     fn reduced(&mut self, levels: u32, op: Op, map: MapText, place: Place) -> Result<Expr, Stop>
-        ensures { Gives (λ e. (view e, views self.new.rest.now)) result (reduced_of (readers levels) op map place (views self.old.rest.now)) }
+        ensures { Gives (λ e. (view e, views self.new.rest.now)) result
+            (reduced_of (readers levels) op map place (views self.old.rest.now)) }
     {
         let reduced = self.parenthesis(levels)?;
         Ok(Expr::Reduce {

@@ -27,7 +27,8 @@ fn signed(negative: bool, value: u64) -> i128
 impl<'t, 'a> Cursor<'t, 'a> {
     /// `name { "," name }`, as the tokens of the names.
     pub(crate) fn names(&mut self) -> Result<List<Token<'a>>, Stop>
-        ensures { Gives (λ xs. (views xs, views self.new.rest.now)) result (names_of (length (views self.old.rest.now)) (views self.old.rest.now)) }
+        ensures { Gives (λ xs. (views xs, views self.new.rest.now)) result
+            (names_of (length (views self.old.rest.now)) (views self.old.rest.now)) }
     {
         let mut found = List::new(self.alloc);
         let mut room = self.left();
@@ -46,7 +47,8 @@ impl<'t, 'a> Cursor<'t, 'a> {
     /// Names with commas between them, or none.
     #[tactic(auto, unfolding(crate::specs::inner::IndexReader::optional_names_of))]
     pub(crate) fn optional_names(&mut self) -> Result<List<Name>, Stop>
-        ensures { Gives (λ ns. (ns, views self.new.rest.now)) result (optional_names_of (views self.old.rest.now)) }
+        ensures { Gives (λ ns. (ns, views self.new.rest.now)) result
+            (optional_names_of (views self.old.rest.now)) }
     {
         if !self.begins(TokenKind::Name) {
             return Ok(List::new(self.alloc));
@@ -58,7 +60,8 @@ impl<'t, 'a> Cursor<'t, 'a> {
     // What follows a number.
     #[tactic(auto, unfolding(crate::specs::inner::IndexReader::number_term_of))]
     fn number_term(&mut self, negative: bool, value: u64, place: Place) -> Result<Term, Stop>
-        ensures { Gives (λ t. (t, views self.new.rest.now)) result (number_term_of (sign_of negative) value place (views self.old.rest.now)) }
+        ensures { Gives (λ t. (t, views self.new.rest.now)) result
+            (number_term_of (sign_of negative) value place (views self.old.rest.now)) }
     {
         let factor = signed(negative, value);
         if self.begins(TokenKind::Name) {
@@ -90,7 +93,8 @@ impl<'t, 'a> Cursor<'t, 'a> {
     #[tactic(auto, unfolding(crate::specs::inner::IndexReader::name_term_of))]
     fn name_term(&mut self, negative: bool, name: &[u8], place: Place) -> Result<Term, Stop>
         requires { IsAscii name.now }
-        ensures { Gives (λ t. (t, views self.new.rest.now)) result (name_term_of (sign_of negative) name.now place (views self.old.rest.now)) }
+        ensures { Gives (λ t. (t, views self.new.rest.now)) result
+            (name_term_of (sign_of negative) name.now place (views self.old.rest.now)) }
     {
         let name = Name::from_ascii(self.alloc, name)?;
         if !self.is_symbol(b"*") {
@@ -111,7 +115,8 @@ impl<'t, 'a> Cursor<'t, 'a> {
 
     #[tactic(auto, unfolding(crate::specs::inner::IndexReader::term_of))]
     fn term(&mut self, negative: bool) -> Result<Term, Stop>
-        ensures { Gives (λ t. (t, views self.new.rest.now)) result (term_of (sign_of negative) (views self.old.rest.now)) }
+        ensures { Gives (λ t. (t, views self.new.rest.now)) result
+            (term_of (sign_of negative) (views self.old.rest.now)) }
     {
         let text = self.text();
         if self.begins(TokenKind::Number) {
@@ -141,7 +146,8 @@ impl<'t, 'a> Cursor<'t, 'a> {
 
     // `{ ( "+" or "-" ) term }`, appended to these terms.
     fn more_terms(&mut self, terms: &mut List<Term>) -> Result<(), Stop>
-        ensures { Gives (λ _. (terms.new, views self.new.rest.now)) result (with_front terms.old (terms_of (length (views self.old.rest.now)) (views self.old.rest.now))) }
+        ensures { Gives (λ _. (terms.new, views self.new.rest.now)) result (with_front terms.old
+            (terms_of (length (views self.old.rest.now)) (views self.old.rest.now))) }
     {
         let mut room = self.left();
         while room > 0 {
@@ -159,7 +165,8 @@ impl<'t, 'a> Cursor<'t, 'a> {
     // `term { ( "+" or "-" ) term }`, with the sign before the first term.
     #[tactic(auto, unfolding(crate::specs::inner::IndexReader::signed_index_of))]
     fn signed_index(&mut self, negative: bool, place: Place) -> Result<IndexExpr, Stop>
-        ensures { Gives (λ e. (e, views self.new.rest.now)) result (signed_index_of (sign_of negative) place (views self.old.rest.now)) }
+        ensures { Gives (λ e. (e, views self.new.rest.now)) result
+            (signed_index_of (sign_of negative) place (views self.old.rest.now)) }
     {
         let first = self.term(negative)?;
         let mut terms = List::new(self.alloc);
@@ -171,7 +178,8 @@ impl<'t, 'a> Cursor<'t, 'a> {
     /// An index expression.
     #[tactic(auto, unfolding(crate::specs::inner::IndexReader::index_of))]
     pub(crate) fn index(&mut self) -> Result<IndexExpr, Stop>
-        ensures { Gives (λ e. (e, views self.new.rest.now)) result (index_of (views self.old.rest.now)) }
+        ensures { Gives (λ e. (e, views self.new.rest.now)) result
+            (index_of (views self.old.rest.now)) }
     {
         if self.is_symbol(b"-") {
             let place = self.skip();
@@ -183,7 +191,8 @@ impl<'t, 'a> Cursor<'t, 'a> {
 
     /// `index { "," index }`, so many after the first at most.
     pub(crate) fn indices(&mut self, further: usize) -> Result<List<IndexExpr>, Stop>
-        ensures { Gives (λ es. (es, views self.new.rest.now)) result (indices_of further (views self.old.rest.now)) }
+        ensures { Gives (λ es. (es, views self.new.rest.now)) result
+            (indices_of further (views self.old.rest.now)) }
     {
         let mut found = List::new(self.alloc);
         let mut room = further;
@@ -207,7 +216,8 @@ impl<'t, 'a> Cursor<'t, 'a> {
     /// Index expressions with commas between them, or none.
     #[tactic(auto, unfolding(crate::specs::inner::IndexReader::optional_indices_of))]
     pub(crate) fn optional_indices(&mut self) -> Result<List<IndexExpr>, Stop>
-        ensures { Gives (λ es. (es, views self.new.rest.now)) result (optional_indices_of (views self.old.rest.now)) }
+        ensures { Gives (λ es. (es, views self.new.rest.now)) result
+            (optional_indices_of (views self.old.rest.now)) }
     {
         if !self.begins_index() {
             return Ok(List::new(self.alloc));
@@ -219,7 +229,8 @@ impl<'t, 'a> Cursor<'t, 'a> {
     /// `"(" [ names ] "->" [ indices ] ")"`.
     #[tactic(auto, unfolding(crate::specs::inner::IndexReader::map_of))]
     pub(crate) fn map(&mut self) -> Result<MapText, Stop>
-        ensures { Gives (λ m. (m, views self.new.rest.now)) result (map_of (views self.old.rest.now)) }
+        ensures { Gives (λ m. (m, views self.new.rest.now)) result
+            (map_of (views self.old.rest.now)) }
     {
         let open = self.symbol(b"(")?;
         let names = self.optional_names()?;

@@ -26,7 +26,8 @@ const LEVELS: u32 = MOST_LEVEL + 1;
 
 /// The place of the token from which on so many are left.
 fn place_at(tokens: &[Token], left: usize) -> Place
-    ensures { (before rest : Items Spelled) → views tokens.now ≡ before ++ rest → length rest ≡ left → result ≡ place_of rest }
+    ensures { (before rest : Items Spelled)
+        → views tokens.now ≡ before ++ rest → length rest ≡ left → result ≡ place_of rest }
 {
     let passed = tokens.len().saturating_sub(left);
     first_place(&tokens[passed..])
@@ -49,21 +50,24 @@ fn read(alloc: Global, tokens: &[Token]) -> Result<System, Stop>
 /// leaves it, a program may want more tokens than there are; the place of that `Syntax` is line 1, column 1.
 pub fn parse(alloc: Global, tokens: &[Token<'_>]) -> Result<System, ParseFault>
     // What is read is spelled so.
-    ensures found { IfOk result (λ system. IsProgram levels (views tokens.now) (view_system system)) }
+    ensures found { IfOk result (λ system.
+        IsProgram levels (views tokens.now) (view_system system)) }
 
     // What is spelled so is read, unless memory runs out.
     ensures only { (tree : Tree) → IsProgram levels (views tokens.now) tree → Answers result tree }
 
     // The place of a fault, for the tokens of a text. A token too many on level 257 is found in any tokens.
-    ensures syntax { (bytes : Items ℕ) (place : Position) → IsText start bytes (views tokens.now) → result ≡ Err (ParseFault.Syntax place)
-        → IsSyntaxPlace (views tokens.now) place }
-    ensures depth { (place : Position) → result ≡ Err (ParseFault.Depth place) → IsDepthPlace (views tokens.now) place }
+    ensures syntax { (bytes : Items ℕ) (place : Position) → IsText start bytes (views tokens.now)
+        → result ≡ Err (ParseFault.Syntax place) → IsSyntaxPlace (views tokens.now) place }
+    ensures depth { (place : Position)
+        → result ≡ Err (ParseFault.Depth place) → IsDepthPlace (views tokens.now) place }
 
     // Tokens that have a fault are refused for it, unless memory runs out.
     ensures fault { (fault : ParseFault) → IsFault (views tokens.now) fault → Refuses result fault }
 
     // A text is refused only where no program is spelled.
-    ensures refused { (fault : ParseFault) (tree : Tree) → result ≡ Err fault → IsProgram levels (views tokens.now) tree → fault ≡ ParseFault.Memory }
+    ensures refused { (fault : ParseFault) (tree : Tree) → result ≡ Err fault
+        → IsProgram levels (views tokens.now) tree → fault ≡ ParseFault.Memory }
 {
     match read(alloc, tokens) {
         Ok(system) => Ok(system),

@@ -86,7 +86,8 @@ impl<'t, 'a> Cursor<'t, 'a> {
     /// A relation between two expressions.
     #[tactic(auto, unfolding(crate::specs::inner::IndexReader::relation_by))]
     pub(crate) fn compare(&mut self) -> Result<Relation, Stop>
-        ensures { Gives (λ r. (r, views self.new.rest.now)) result (relation_by (compare_at (views self.old.rest.now)) (views self.old.rest.now)) }
+        ensures { Gives (λ r. (r, views self.new.rest.now)) result
+            (relation_by (compare_at (views self.old.rest.now)) (views self.old.rest.now)) }
     {
         match self.compare_at() {
             None => Err(self.syntax()),
@@ -118,7 +119,8 @@ impl<'t, 'a> Cursor<'t, 'a> {
     /// The operator of a reduction.
     #[tactic(auto, unfolding(crate::specs::inner::ExpressionReader::op_by))]
     pub(crate) fn op(&mut self) -> Result<Op, Stop>
-        ensures { Gives (λ f. (f, views self.new.rest.now)) result (op_of (views self.old.rest.now)) }
+        ensures { Gives (λ f. (f, views self.new.rest.now)) result
+            (op_of (views self.old.rest.now)) }
     {
         match self.op_at() {
             None => Err(self.syntax()),
@@ -132,7 +134,8 @@ impl<'t, 'a> Cursor<'t, 'a> {
     // `[ "[" "]" ]`, behind a number.
     #[tactic(auto, unfolding(crate::specs::inner::ExpressionReader::brackets_of))]
     fn brackets(&mut self) -> Result<Access, Stop>
-        ensures { Gives (λ at. (at, views self.new.rest.now)) result (brackets_of (views self.old.rest.now)) }
+        ensures { Gives (λ at. (at, views self.new.rest.now)) result
+            (brackets_of (views self.old.rest.now)) }
     {
         if !self.is_symbol(b"[") {
             return Ok(Access::Here);
@@ -146,7 +149,8 @@ impl<'t, 'a> Cursor<'t, 'a> {
     #[tactic(auto, unfolding(crate::specs::inner::ExpressionReader::indexed_of))]
     fn indexed(&mut self, name: &[u8], place: Place) -> Result<Expr, Stop>
         requires { IsAscii name.now }
-        ensures { Gives (λ e. (view e, views self.new.rest.now)) result (indexed_of name.now place (views self.old.rest.now)) }
+        ensures { Gives (λ e. (view e, views self.new.rest.now)) result
+            (indexed_of name.now place (views self.old.rest.now)) }
     {
         let indices = self.optional_indices()?;
         self.symbol(b"]")?;
@@ -160,7 +164,8 @@ impl<'t, 'a> Cursor<'t, 'a> {
     // Behind the map that took the last level.
     #[tactic(auto, unfolding(crate::specs::inner::ExpressionReader::readers))]
     fn last_mapped(&self, tree: Expr) -> Result<Expr, Stop>
-        ensures { Gives (λ e. (view e, views self.now.rest.now)) result ((readers 0).postfix_tail (view tree) (views self.now.rest.now)) }
+        ensures { Gives (λ e. (view e, views self.now.rest.now)) result
+            ((readers 0).postfix_tail (view tree) (views self.now.rest.now)) }
     {
         if self.is_symbol(b".") {
             return Err(self.too_deep(true));
@@ -170,7 +175,8 @@ impl<'t, 'a> Cursor<'t, 'a> {
 
     /// `{ "." map }`, behind an expression.
     pub(crate) fn postfix_tail(&mut self, levels: u32, body: Expr) -> Result<Expr, Stop>
-        ensures { Gives (λ e. (view e, views self.new.rest.now)) result (postfix_tail_of (readers levels) (view body) (views self.old.rest.now)) }
+        ensures { Gives (λ e. (view e, views self.new.rest.now)) result
+            (postfix_tail_of (readers levels) (view body) (views self.old.rest.now)) }
     {
         let mut tree = body;
         let mut room = levels;
@@ -188,7 +194,8 @@ impl<'t, 'a> Cursor<'t, 'a> {
 
     // The same, one level deeper.
     fn deeper_postfix_tail(&mut self, levels: u32, body: Expr) -> Result<Expr, Stop>
-        ensures { Gives (λ e. (view e, views self.new.rest.now)) result ((readers levels).postfix_tail (view body) (views self.old.rest.now)) }
+        ensures { Gives (λ e. (view e, views self.new.rest.now)) result
+            ((readers levels).postfix_tail (view body) (views self.old.rest.now)) }
     {
         if levels == 0 {
             return self.last_mapped(body);
@@ -200,7 +207,8 @@ impl<'t, 'a> Cursor<'t, 'a> {
     #[tactic(auto, unfolding(crate::specs::inner::ExpressionReader::named_of))]
     pub(crate) fn named(&mut self, levels: u32, name: &[u8], place: Place) -> Result<Expr, Stop>
         requires { IsAscii name.now }
-        ensures { Gives (λ e. (view e, views self.new.rest.now)) result (named_of (readers levels) name.now place (views self.old.rest.now)) }
+        ensures { Gives (λ e. (view e, views self.new.rest.now)) result
+            (named_of (readers levels) name.now place (views self.old.rest.now)) }
     {
         if self.is_symbol(b"[") {
             self.skip();
@@ -228,7 +236,8 @@ impl<'t, 'a> Cursor<'t, 'a> {
     /// What stands behind a number.
     #[tactic(auto, unfolding(crate::specs::inner::ExpressionReader::numbered_of))]
     pub(crate) fn numbered(&mut self, levels: u32, value: u64, place: Place) -> Result<Expr, Stop>
-        ensures { Gives (λ e. (view e, views self.new.rest.now)) result (numbered_of (readers levels) value place (views self.old.rest.now)) }
+        ensures { Gives (λ e. (view e, views self.new.rest.now)) result
+            (numbered_of (readers levels) value place (views self.old.rest.now)) }
     {
         let at = self.brackets()?;
         if !self.is_symbol(b".") {

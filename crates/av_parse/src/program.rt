@@ -34,7 +34,8 @@ fn declare(
     width: Option<u64>,
     names: &[Token],
 ) -> Result<(), Memory>
-    ensures { IfOk result (λ _. found.new ≡ found.old ++ declared domain.now width (views names.now)) }
+    ensures { IfOk result (λ _.
+        found.new ≡ found.old ++ declared domain.now width (views names.now)) }
 {
     for token in names {
         found.push(Declaration {
@@ -55,7 +56,12 @@ fn headed(
     inputs: List<Declaration>,
     outputs: List<Declaration>,
 ) -> Result<SystemHeader, Memory>
-    ensures { IfOk result (λ h. view_header h ≡ record { name = (token_view name.entry).text; sizes = sizes; inputs = inputs; outputs = outputs }) }
+    ensures { IfOk result (λ h. view_header h ≡ record {
+      name = (token_view name.entry).text;
+      sizes = sizes;
+      inputs = inputs;
+      outputs = outputs;
+    }) }
 {
     Ok(SystemHeader {
         name: Name::from_ascii(alloc, name.text)?,
@@ -69,7 +75,8 @@ impl<'t, 'a> Cursor<'t, 'a> {
     // `"[" number "]"`, behind the word `word`.
     #[tactic(auto, unfolding(crate::specs::inner::ProgramReader::bits_of))]
     fn bits(&mut self) -> Result<Option<u64>, Stop>
-        ensures { Gives (λ w. (w, views self.new.rest.now)) result (bits_of (views self.old.rest.now)) }
+        ensures { Gives (λ w. (w, views self.new.rest.now)) result
+            (bits_of (views self.old.rest.now)) }
     {
         self.symbol(b"[")?;
         let number = self.expect(TokenKind::Number)?;
@@ -80,7 +87,8 @@ impl<'t, 'a> Cursor<'t, 'a> {
     // `"integer"` or `"word" "[" number "]"`: the number of bits, if one is written.
     #[tactic(auto, unfolding(crate::specs::inner::ProgramReader::width_of))]
     fn width(&mut self) -> Result<Option<u64>, Stop>
-        ensures { Gives (λ w. (w, views self.new.rest.now)) result (width_of (views self.old.rest.now)) }
+        ensures { Gives (λ w. (w, views self.new.rest.now)) result
+            (width_of (views self.old.rest.now)) }
     {
         if self.is_word(b"word") {
             self.skip();
@@ -93,7 +101,8 @@ impl<'t, 'a> Cursor<'t, 'a> {
     // `"of" width`.
     #[tactic(auto, unfolding(crate::specs::inner::ProgramReader::typing_of))]
     fn typing(&mut self) -> Result<Option<u64>, Stop>
-        ensures { Gives (λ w. (w, views self.new.rest.now)) result (typing_of (views self.old.rest.now)) }
+        ensures { Gives (λ w. (w, views self.new.rest.now)) result
+            (typing_of (views self.old.rest.now)) }
     {
         self.word(b"of")?;
         self.width()
@@ -105,7 +114,8 @@ impl<'t, 'a> Cursor<'t, 'a> {
         names: &[Token<'a>],
         found: &mut List<Declaration>,
     ) -> Result<(), Stop>
-        ensures { Gives (λ _. (found.new, views self.new.rest.now)) result (with_front found.old (declaration_rest_of (views names.now) (views self.old.rest.now))) }
+        ensures { Gives (λ _. (found.new, views self.new.rest.now)) result (with_front found.old
+            (declaration_rest_of (views names.now) (views self.old.rest.now))) }
     {
         let domain = self.domain()?;
         let width = self.typing()?;
@@ -115,7 +125,8 @@ impl<'t, 'a> Cursor<'t, 'a> {
 
     // `names ":" domain "of" width`, appended to these declarations.
     fn declaration(&mut self, found: &mut List<Declaration>) -> Result<(), Stop>
-        ensures { Gives (λ _. (found.new, views self.new.rest.now)) result (with_front found.old (declaration_of (views self.old.rest.now))) }
+        ensures { Gives (λ _. (found.new, views self.new.rest.now)) result
+            (with_front found.old (declaration_of (views self.old.rest.now))) }
     {
         let names = self.names()?;
         self.symbol(b":")?;
@@ -124,7 +135,8 @@ impl<'t, 'a> Cursor<'t, 'a> {
 
     // `declaration { ";" declaration } [ ";" ]`.
     fn declarations(&mut self) -> Result<List<Declaration>, Stop>
-        ensures { Gives (λ ds. (ds, views self.new.rest.now)) result (declarations_of (length (views self.old.rest.now)) (views self.old.rest.now)) }
+        ensures { Gives (λ ds. (ds, views self.new.rest.now)) result
+            (declarations_of (length (views self.old.rest.now)) (views self.old.rest.now)) }
     {
         let mut found = List::new(self.alloc);
         let mut room = self.left();
@@ -144,7 +156,8 @@ impl<'t, 'a> Cursor<'t, 'a> {
 
     #[tactic(auto, unfolding(crate::specs::inner::ProgramReader::inputs_of))]
     fn inputs(&mut self) -> Result<List<Declaration>, Stop>
-        ensures { Gives (λ ds. (ds, views self.new.rest.now)) result (inputs_of (views self.old.rest.now)) }
+        ensures { Gives (λ ds. (ds, views self.new.rest.now)) result
+            (inputs_of (views self.old.rest.now)) }
     {
         if !self.begins(TokenKind::Name) {
             return Ok(List::new(self.alloc));
@@ -155,7 +168,8 @@ impl<'t, 'a> Cursor<'t, 'a> {
     // `"(" [ declarations ] ")"`.
     #[tactic(auto, unfolding(crate::specs::inner::ProgramReader::input_list_of))]
     fn input_list(&mut self) -> Result<List<Declaration>, Stop>
-        ensures { Gives (λ ds. (ds, views self.new.rest.now)) result (input_list_of (views self.old.rest.now)) }
+        ensures { Gives (λ ds. (ds, views self.new.rest.now)) result
+            (input_list_of (views self.old.rest.now)) }
     {
         self.symbol(b"(")?;
         let inputs = self.inputs()?;
@@ -166,7 +180,8 @@ impl<'t, 'a> Cursor<'t, 'a> {
     // `"returns" "(" declarations ")" ";"`.
     #[tactic(auto, unfolding(crate::specs::inner::ProgramReader::output_list_of))]
     fn output_list(&mut self) -> Result<List<Declaration>, Stop>
-        ensures { Gives (λ ds. (ds, views self.new.rest.now)) result (output_list_of (views self.old.rest.now)) }
+        ensures { Gives (λ ds. (ds, views self.new.rest.now)) result
+            (output_list_of (views self.old.rest.now)) }
     {
         self.word(b"returns")?;
         self.symbol(b"(")?;
@@ -178,7 +193,8 @@ impl<'t, 'a> Cursor<'t, 'a> {
 
     // `declaration ";" { declaration ";" }`.
     fn variables(&mut self) -> Result<List<Declaration>, Stop>
-        ensures { Gives (λ ds. (ds, views self.new.rest.now)) result (variables_of (length (views self.old.rest.now)) (views self.old.rest.now)) }
+        ensures { Gives (λ ds. (ds, views self.new.rest.now)) result
+            (variables_of (length (views self.old.rest.now)) (views self.old.rest.now)) }
     {
         let mut found = List::new(self.alloc);
         let mut room = self.left();
@@ -195,7 +211,8 @@ impl<'t, 'a> Cursor<'t, 'a> {
 
     #[tactic(auto, unfolding(crate::specs::inner::ProgramReader::locals_of))]
     fn locals(&mut self) -> Result<List<Declaration>, Stop>
-        ensures { Gives (λ ds. (ds, views self.new.rest.now)) result (locals_of (views self.old.rest.now)) }
+        ensures { Gives (λ ds. (ds, views self.new.rest.now)) result
+            (locals_of (views self.old.rest.now)) }
     {
         if !self.is_word(b"var") {
             return Ok(List::new(self.alloc));
@@ -207,7 +224,8 @@ impl<'t, 'a> Cursor<'t, 'a> {
     // `[ ":" domain ]`, behind the system's name, which stands at this place.
     #[tactic(auto, unfolding(crate::specs::inner::ProgramReader::sizes_of))]
     fn sizes(&mut self, place: Place) -> Result<DomainText, Stop>
-        ensures { Gives (λ d. (d, views self.new.rest.now)) result (sizes_of place (views self.old.rest.now)) }
+        ensures { Gives (λ d. (d, views self.new.rest.now)) result
+            (sizes_of place (views self.old.rest.now)) }
     {
         if !self.is_symbol(b":") {
             return Ok(DomainText {
@@ -223,7 +241,8 @@ impl<'t, 'a> Cursor<'t, 'a> {
     // `[ "[" [ names ] "]" ]`.
     #[tactic(auto, unfolding(crate::specs::inner::ProgramReader::index_names_of))]
     fn index_names(&mut self) -> Result<Option<List<Name>>, Stop>
-        ensures { Gives (λ ns. (ns, views self.new.rest.now)) result (index_names_of (views self.old.rest.now)) }
+        ensures { Gives (λ ns. (ns, views self.new.rest.now)) result
+            (index_names_of (views self.old.rest.now)) }
     {
         if !self.is_symbol(b"[") {
             return Ok(None);
@@ -236,7 +255,8 @@ impl<'t, 'a> Cursor<'t, 'a> {
 
     // `name [ "[" [ names ] "]" ] "=" expr ";"`.
     fn equation(&mut self, levels: u32) -> Result<Equation, Stop>
-        ensures { Gives (λ e. (view_equation e, views self.new.rest.now)) result (equation_of levels (views self.old.rest.now)) }
+        ensures { Gives (λ e. (view_equation e, views self.new.rest.now)) result
+            (equation_of levels (views self.old.rest.now)) }
     {
         let token = self.expect(TokenKind::Name)?;
         let indices = self.index_names()?;
@@ -254,7 +274,8 @@ impl<'t, 'a> Cursor<'t, 'a> {
     // `expr ";"`, behind the `=`.
     #[tactic(auto, unfolding(crate::specs::inner::ProgramReader::right_side_of))]
     fn right_side(&mut self, levels: u32) -> Result<Expr, Stop>
-        ensures { Gives (λ e. (view e, views self.new.rest.now)) result (right_side_of levels (views self.old.rest.now)) }
+        ensures { Gives (λ e. (view e, views self.new.rest.now)) result
+            (right_side_of levels (views self.old.rest.now)) }
     {
         let right = self.deeper_expr(levels)?;
         self.symbol(b";")?;
@@ -263,7 +284,8 @@ impl<'t, 'a> Cursor<'t, 'a> {
 
     // `{ equation }`.
     fn equations(&mut self, levels: u32) -> Result<List<Equation>, Stop>
-        ensures { Gives (λ es. (view_equations es, views self.new.rest.now)) result (equations_of levels (length (views self.old.rest.now)) (views self.old.rest.now)) }
+        ensures { Gives (λ es. (view_equations es, views self.new.rest.now)) result
+            (equations_of levels (length (views self.old.rest.now)) (views self.old.rest.now)) }
     {
         let mut found = List::new(self.alloc);
         let mut room = self.left();
@@ -281,7 +303,8 @@ impl<'t, 'a> Cursor<'t, 'a> {
     // `"let" { equation } "tel"`.
     #[tactic(auto, unfolding(crate::specs::inner::ProgramReader::definitions_of))]
     fn definitions(&mut self, levels: u32) -> Result<List<Equation>, Stop>
-        ensures { Gives (λ es. (view_equations es, views self.new.rest.now)) result (definitions_of levels (views self.old.rest.now)) }
+        ensures { Gives (λ es. (view_equations es, views self.new.rest.now)) result
+            (definitions_of levels (views self.old.rest.now)) }
     {
         self.word(b"let")?;
         let equations = self.equations(levels)?;
@@ -300,7 +323,8 @@ impl<'t, 'a> Cursor<'t, 'a> {
 
     // What stands before the locals.
     fn header(&mut self) -> Result<SystemHeader, Stop>
-        ensures { Gives (λ h. (view_header h, views self.new.rest.now)) result (header_of (views self.old.rest.now)) }
+        ensures { Gives (λ h. (view_header h, views self.new.rest.now)) result
+            (header_of (views self.old.rest.now)) }
     {
         self.word(b"system")?;
         let name = self.expect(TokenKind::Name)?;
@@ -311,7 +335,8 @@ impl<'t, 'a> Cursor<'t, 'a> {
     }
 
     fn system(&mut self, levels: u32) -> Result<System, Stop>
-        ensures { Gives (λ s. (view_system s, views self.new.rest.now)) result (system_of levels (views self.old.rest.now)) }
+        ensures { Gives (λ s. (view_system s, views self.new.rest.now)) result
+            (system_of levels (views self.old.rest.now)) }
     {
         let header = self.header()?;
         let locals = self.locals()?;
@@ -330,7 +355,8 @@ impl<'t, 'a> Cursor<'t, 'a> {
     // `End`, and no more tokens.
     #[tactic(auto, unfolding(crate::specs::inner::ProgramReader::ended))]
     fn end(&mut self) -> Result<(), Stop>
-        ensures { (system : Spelled) → Gives (λ _. system) result (end_of system (views self.old.rest.now)) }
+        ensures { (system : Spelled)
+            → Gives (λ _. system) result (end_of system (views self.old.rest.now)) }
     {
         self.expect(TokenKind::End)?;
         if !self.rest.is_empty() {

@@ -124,7 +124,8 @@ fn first_of(linear: &Point, map: &Map, points: &[Point]) -> Option<Point>
     requires linear { AtMost 4 linear.now }
     requires rows { All IsWithinLimits map.now.rows }
     requires small { All (AtMost 4095) points.now }
-    ensures { result ≡ slice_get (filter (moves linear.now) (filter (stays map.now) (filter (λ w. not (is_zero w)) points.now))) 0 }
+    ensures { result ≡ slice_get (filter
+        (moves linear.now) (filter (stays map.now) (filter (λ w. not (is_zero w)) points.now))) 0 }
 {
     for w in points {
         if is_mover(linear, map, w) {

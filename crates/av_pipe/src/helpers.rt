@@ -35,7 +35,8 @@ fn variable_helpers(
 ) -> Result<(), Memory>
     requires linear { All (λ t. AtMost 4 t.linear) times.now }
     requires maps { HasFinePieces (view_variable var.now) }
-    ensures { OnOk result (helpers.new ≡ helpers.old ++ of_variable place (slice_get times.now number) (view_variable var.now)) }
+    ensures { OnOk result (helpers.new
+        ≡ helpers.old ++ of_variable place (slice_get times.now number) (view_variable var.now)) }
 {
     match times.get(number) {
         Some(time) => {

@@ -52,7 +52,8 @@ fn reference_helper(
 ) -> Result<(), Memory>
     requires linear { AtMost 4 linear.now }
     requires fine { IsFineMap points.now map.now }
-    ensures { OnOk result (helpers.new ≡ helpers.old ++ helper_of place piece site (first_moving linear.now map.now)) }
+    ensures { OnOk result (helpers.new
+        ≡ helpers.old ++ helper_of place piece site (first_moving linear.now map.now)) }
 {
     if let Some(direction) = first_moving(linear, map, points) {
         helpers.push(Helper {
@@ -97,7 +98,8 @@ fn tree_helpers(
 ) -> Result<(), Memory>
     requires linear { AtMost 4 linear.now }
     requires maps { HasFineMaps points.now (view tree.now) }
-    ensures { OnOk result (helpers.new ≡ helpers.old ++ of_references place piece linear.now 0 (references (view tree.now))) }
+    ensures { OnOk result (helpers.new
+        ≡ helpers.old ++ of_references place piece linear.now 0 (references (view tree.now))) }
 {
     let mut maps = List::new(alloc);
     append_maps(tree, &mut maps)?;
@@ -117,8 +119,10 @@ pub(crate) fn piece_helpers(
 ) -> Result<(), Memory>
     requires linear { AtMost 4 linear.now }
     requires few { length pieces.now ≤ 1073741824 }
-    requires maps { AllByRecursion (λ p. HasFineMaps points.now p.tree) (map view_piece pieces.now) }
-    ensures { OnOk result (helpers.new ≡ helpers.old ++ of_pieces place linear.now 0 (map view_piece pieces.now)) }
+    requires maps { AllByRecursion
+        (λ p. HasFineMaps points.now p.tree) (map view_piece pieces.now) }
+    ensures { OnOk result (helpers.new
+        ≡ helpers.old ++ of_pieces place linear.now 0 (map view_piece pieces.now)) }
 {
     for (number, piece) in pieces.iter().enumerate() {
         tree_helpers(

@@ -37,7 +37,8 @@ fn most(coef: &[i64], low: &[i64], high: &[i64]) -> i128
     requires same { length high.now ≡ length low.now }
     requires fits { length low.now ≤ length coef.now }
     requires few { length low.now ≤ 4 }
-    ensures most { (z : List ℤ) → length z ≡ length low.now → IsBetween low.now high.now z → dot coef.now z ≤ℤ result }
+    ensures most { (z : List ℤ) → length z ≡ length low.now
+        → IsBetween low.now high.now z → dot coef.now z ≤ℤ result }
     ensures small { unsigned_abs result ≤ 2 ^ 67 }
 {
     let mut sum: i128 = 0;
@@ -54,7 +55,8 @@ fn restricted(coef: i64, rest: i128, span: Interval) -> Interval
     requires coef { unsigned_abs coef ≤ 2 ^ 40 }
     requires rest { unsigned_abs rest ≤ 2 ^ 70 }
     requires low { unsigned_abs span.low ≤ 2 ^ 70 }
-    ensures keeps { (x : ℤ) → pos 0 ≤ℤ (coef *ℤ x +ℤ rest) → span.low ≤ℤ x → x ≤ℤ span.high → (result.low ≤ℤ x) × (x ≤ℤ result.high) }
+    ensures keeps { (x : ℤ) → pos 0 ≤ℤ (coef *ℤ x +ℤ rest)
+        → span.low ≤ℤ x → x ≤ℤ span.high → (result.low ≤ℤ x) × (x ≤ℤ result.high) }
     ensures above { span.low ≤ℤ result.low }
     ensures below { result.high ≤ℤ span.high }
     ensures low { unsigned_abs result.low ≤ 2 ^ 70 }
@@ -91,8 +93,9 @@ fn narrowed(row: &Form, fixed: &[i64], low: &[i64], high: &[i64], span: Interval
     requires same { length high.now ≡ length low.now }
     requires fits { length fixed.now + length low.now < 4 }
     requires low { unsigned_abs span.low ≤ 2 ^ 70 }
-    ensures keeps { (x : ℤ) (z : List ℤ) → length z ≡ length low.now → IsBetween low.now high.now z →
-        HoldsAt row.now (fixed.now ++ x ∷ z) → span.low ≤ℤ x → x ≤ℤ span.high → (result.low ≤ℤ x) × (x ≤ℤ result.high) }
+    ensures keeps { (x : ℤ) (z : List ℤ) → length z ≡ length low.now
+        → IsBetween low.now high.now z → HoldsAt row.now (fixed.now ++ x ∷ z)
+        → span.low ≤ℤ x → x ≤ℤ span.high → (result.low ≤ℤ x) × (x ≤ℤ result.high) }
     ensures above { span.low ≤ℤ result.low }
     ensures below { result.high ≤ℤ span.high }
     ensures low { unsigned_abs result.low ≤ 2 ^ 70 }
@@ -113,8 +116,9 @@ pub(crate) fn interval_of(rows: &[Form], fixed: &[i64], low: &[i64], high: &[i64
     requires same { length high.now ≡ length low.now }
     requires some { 0 < length low.now }
     requires fits { length fixed.now + length low.now ≤ 4 }
-    ensures keeps { (x : ℤ) (z : List ℤ) → length (x ∷ z) ≡ length low.now → IsBetween low.now high.now (x ∷ z) →
-        Holds rows.now (fixed.now ++ x ∷ z) → (result.low ≤ℤ x) × (x ≤ℤ result.high) }
+    ensures keeps { (x : ℤ) (z : List ℤ)
+        → length (x ∷ z) ≡ length low.now → IsBetween low.now high.now (x ∷ z)
+        → Holds rows.now (fixed.now ++ x ∷ z) → (result.low ≤ℤ x) × (x ≤ℤ result.high) }
     ensures above { slice_index_or low.now 0 (pos 0) ≤ℤ result.low }
     ensures below { result.high ≤ℤ slice_index_or high.now 0 (pos 0) }
 {

@@ -6,5 +6,6 @@ ghost use Rattle.av_poly.specs.Normal.{AreNormalised};
 
 /// A law on normalised rows: rows have one list of them.
 pub fn normalised_rows_are_unique()
-    ensures { (dim : ℕ) (rows a b : List Form) → AreNormalised dim rows a → AreNormalised dim rows b → a ≡ b }
+    ensures { (dim : ℕ) (rows a b : List Form)
+        → AreNormalised dim rows a → AreNormalised dim rows b → a ≡ b }
 {}

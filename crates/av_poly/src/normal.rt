@@ -49,7 +49,8 @@ fn divided(dim: u8, row: &Form) -> Option<Form>
 
 // The row with the lesser of two constants.
 fn lesser(row: &Form, constant: i64) -> Form
-    ensures { result ≡ record { coef = row.now.coef; constant = int_min row.now.constant constant } }
+    ensures { result
+        ≡ record { coef = row.now.coef; constant = int_min row.now.constant constant } }
 {
     let coef = row.coef;
     let least = row.constant.min(constant);
@@ -63,7 +64,8 @@ fn lesser(row: &Form, constant: i64) -> Form
 fn lowered(rows: &mut List<Form>, kept: usize, row: &Form) -> bool
     requires { kept ≤ length rows.old }
     ensures yes { IsTrue result → Lowers kept row.now rows.old rows.new }
-    ensures no { result ≡ false → (rows.new ≡ rows.old) × All (λ other. other.coef ≢ row.now.coef) (take kept rows.old) }
+    ensures no { result ≡ false
+        → (rows.new ≡ rows.old) × All (λ other. other.coef ≢ row.now.coef) (take kept rows.old) }
 {
     for k in 0..kept {
         let other = rows.as_slice()[k];

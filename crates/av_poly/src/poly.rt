@@ -60,7 +60,8 @@ impl Poly {
     /// The intersection of both sets: the rows of this one, and then those of the other.
     pub fn meet(&self, alloc: Global, other: &Poly) -> Result<Poly, Memory>
         requires { self.now.dim ≡ other.now.dim }
-        ensures points { IfOk result (λ both. (z : Items ℤ) → Has both z ↔ (Has self.now z × Has other.now z)) }
+        ensures points { IfOk result (λ both. (z : Items ℤ)
+            → Has both z ↔ (Has self.now z × Has other.now z)) }
         ensures dim { IfOk result (λ both. both.dim ≡ self.now.dim) }
         ensures rows { IfOk result (λ both. both.rows ≡ self.now.rows ++ other.now.rows) }
     {
@@ -124,7 +125,8 @@ impl Poly {
         requires dim { self.now.dim ≤ 4 }
         requires low { AtMost 4095 bounds.now.low }
         requires high { AtMost 4095 bounds.now.high }
-        ensures found { IfSome result (λ z. Has self.now z × IsBetween bounds.now.low bounds.now.high z) }
+        ensures found { IfSome result (λ z. Has self.now z
+            × IsBetween bounds.now.low bounds.now.high z) }
         ensures least { IfSome result (λ z. (other : Items ℤ) → Has self.now other →
             IsBetween bounds.now.low bounds.now.high other → IsNotAfter z other) }
         ensures none { IfNone result ((z : Items ℤ) → Has self.now z →

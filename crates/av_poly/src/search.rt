@@ -21,7 +21,8 @@ pub(crate) fn first_from(rows: &[Form], fixed: &[i64], low: &[i64], high: &[i64]
     requires same { length high.now ≡ length low.now }
     requires fits { length fixed.now + length low.now ≤ 4 }
     ensures some { IfSome result (IsFirstFrom rows.now fixed.now low.now high.now) }
-    ensures none { IfNone result ((rest : List ℤ) → CanFollow rows.now fixed.now low.now high.now rest → ⊥) }
+    ensures none { IfNone result ((rest : List ℤ)
+        → CanFollow rows.now fixed.now low.now high.now rest → ⊥) }
 {
     if low.is_empty() {
         return if each_holds(rows, fixed) {

@@ -53,7 +53,8 @@ fn own_read(
     requires from { map.now.from ≤ 4 }
     requires dimension { domain.now.dim ≡ map.now.from }
     requires rows { All IsWithinLimits domain.now.rows }
-    ensures { IfOk result (λ tree. view tree ≡ pick place (choice_before map.now domain.now ∷ []) otherwise.bits) }
+    ensures { IfOk result (λ tree.
+        view tree ≡ pick place (choice_before map.now domain.now ∷ []) otherwise.bits) }
 {
     let mut choices = List::new(alloc);
     choices.push(choice_before(alloc, map, domain)?)?;
@@ -87,7 +88,8 @@ fn folded(
     requires from { map.now.from ≤ 4 }
     requires dimension { domain.now.dim ≡ map.now.from }
     requires rows { All IsWithinLimits domain.now.rows }
-    ensures { IfOk result (λ tree. view tree ≡ binary (sign_of op) (pick place (choice_before map.now domain.now ∷ []) (identity width.bits op)) (view body)) }
+    ensures { IfOk result (λ tree. view tree ≡ binary (sign_of op)
+        (pick place (choice_before map.now domain.now ∷ []) (identity width.bits op)) (view body)) }
 {
     let before = own_read(alloc, map, domain, place, Word::identity(op, width))?;
     joined(alloc, op, before, body)

@@ -68,8 +68,9 @@ fn choice_of(alloc: Global, map: &Map, domain: &Poly, place: usize) -> Result<Ch
     requires dimension { domain.now.dim ≡ map.now.from }
     requires rows { All IsWithinLimits domain.now.rows }
     requires within { place < length domain.now.rows }
-    ensures { IfOk result (λ choice. (before : Items Form) (row : Form) (rest : Items Form) →
-        domain.now.rows ≡ before ++ row ∷ rest → length before ≡ place → choice ≡ choice_of map.now before row rest) }
+    ensures { IfOk result (λ choice. (before : Items Form) (row : Form) (rest : Items Form)
+        → domain.now.rows ≡ before ++ row ∷ rest
+        → length before ≡ place → choice ≡ choice_of map.now before row rest) }
 {
     let rows = domain.rows.as_slice();
     let last = map_over(map, &bound(map, &rows[place]));

@@ -54,7 +54,8 @@ fn unit_set(alloc: Global, name: &Name, map: &Map, set: &Poly) -> Result<Poly, S
     ensures rows { IfOk result (λ domain. AreNormalised set.now.dim set.now.rows domain.rows) }
     ensures limits { IfOk result (λ domain. All IsWithinLimits domain.rows) }
     ensures units { IfOk result (λ domain. AllByRecursion (IsUnit map.now) domain.rows) }
-    ensures steep { IfErr result (IsSteepOf (record { name = name.now; map = map.now; set = set.now })) }
+    ensures steep { IfErr result
+        (IsSteepOf (record { name = name.now; map = map.now; set = set.now })) }
 {
     let domain = normal_set(alloc, set)?;
     if all_units(map, domain.rows.as_slice()) {
@@ -129,9 +130,11 @@ pub(crate) fn reduction_domain(
     set: &Poly,
 ) -> Result<Option<Poly>, SerialFault>
     requires { IsTriable map.now set.now }
-    ensures clean { OnOk result (IsClean (record { name = name.now; map = map.now; set = set.now })) }
+    ensures clean { OnOk result
+        (IsClean (record { name = name.now; map = map.now; set = set.now })) }
     ensures domain { IfOk result (IsDomainOf map.now set.now) }
-    ensures cause { IfErr result (IsFaultOf (record { name = name.now; map = map.now; set = set.now })) }
+    ensures cause { IfErr result
+        (IsFaultOf (record { name = name.now; map = map.now; set = set.now })) }
 {
     let domain = unit_set(alloc, name, map, set)?;
     let extent = extent(alloc, name, &domain)?;

@@ -57,9 +57,12 @@ fn tree_nodes(alloc: Global, name: &Name, tree: &Tree) -> Result<u128, SerialFau
 // Tries each reduction in the pieces of an equation.
 fn pieces_nodes(alloc: Global, name: &Name, pieces: &[Piece]) -> Result<u128, SerialFault>
     requires { CanTryPieces (map view_piece pieces.now) }
-    ensures clean { OnOk result (AllByRecursion IsClean (flat_map (λ p. reductions_in name.now p.tree) (map view_piece pieces.now))) }
-    ensures nodes { IfOk result (IsCapped (HaveNodes (λ p. HasNodes p.tree) (map view_piece pieces.now))) }
-    ensures bad { IfErr result (IsFaultOfFirst (flat_map (λ p. reductions_in name.now p.tree) (map view_piece pieces.now))) }
+    ensures clean { OnOk result (AllByRecursion IsClean
+        (flat_map (λ p. reductions_in name.now p.tree) (map view_piece pieces.now))) }
+    ensures nodes { IfOk result
+        (IsCapped (HaveNodes (λ p. HasNodes p.tree) (map view_piece pieces.now))) }
+    ensures bad { IfErr result (IsFaultOfFirst
+        (flat_map (λ p. reductions_in name.now p.tree) (map view_piece pieces.now))) }
 {
     let mut count: u128 = 0;
     for piece in pieces {
@@ -72,11 +75,11 @@ fn pieces_nodes(alloc: Global, name: &Name, pieces: &[Piece]) -> Result<u128, Se
 /// Tries each reduction of a system.
 pub(crate) fn all_nodes(alloc: Global, vars: &[Var]) -> Result<u128, SerialFault>
     requires { CanTryAll (map view_variable vars.now) }
-    ensures clean { OnOk result (AllByRecursion IsClean
-        (flat_map (λ v. flat_map (λ p. reductions_in v.name p.tree) v.pieces) (map view_variable vars.now))) }
+    ensures clean { OnOk result (AllByRecursion IsClean (flat_map
+        (λ v. flat_map (λ p. reductions_in v.name p.tree) v.pieces) (map view_variable vars.now))) }
     ensures nodes { IfOk result (IsCapped (HaveNodes HasNodesIn (map view_variable vars.now))) }
-    ensures bad { IfErr result (IsFaultOfFirst
-        (flat_map (λ v. flat_map (λ p. reductions_in v.name p.tree) v.pieces) (map view_variable vars.now))) }
+    ensures bad { IfErr result (IsFaultOfFirst (flat_map
+        (λ v. flat_map (λ p. reductions_in v.name p.tree) v.pieces) (map view_variable vars.now))) }
 {
     let mut count: u128 = 0;
     for var in vars {

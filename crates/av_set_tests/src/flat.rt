@@ -62,7 +62,10 @@ impl Pass for Mark {
         })
     }
 
-    ghost same = { λ from to _ e. record { shown = λ x name z w. (λ h. h ∙ sym e, λ h. h ∙ e); declared = λ k s name z. (λ h. h, λ h. h) } };
+    ghost same = { λ from to _ e. record {
+      shown = λ x name z w. (λ h. h ∙ sym e, λ h. h ∙ e);
+      declared = λ k s name z. (λ h. h, λ h. h);
+    } };
 }
 
 impl Feeds<Mark> for Mark {
@@ -96,9 +99,10 @@ impl Pass for Copying {
         copy_flat(alloc, from)
     }
 
-    ghost same = { λ from to _ e.
-        let P : FlatSystem → Type 0 = λ s. SameMeaning (shows_of (view_system from)) (declares_of (view_system from)) (shows_of s) (declares_of s) in
-        subst P (sym e) (same_meaning_refl (shows_of (view_system from)) (declares_of (view_system from))) };
+    ghost same = { λ from to _ e. let P : FlatSystem
+        → Type 0 = λ s. SameMeaning (shows_of (view_system from)) (declares_of
+        (view_system from)) (shows_of s) (declares_of s) in subst P (sym e) (same_meaning_refl
+        (shows_of (view_system from)) (declares_of (view_system from))) };
 }
 
 impl Feeds<Copying> for Copying {
@@ -116,7 +120,8 @@ fn unmarked() -> MarkedWord {
 // Any pass on any system: what it answers shows the same.
 fn through<P: Pass>(alloc: Global, pass: &P, from: &P::In) -> Result<P::Out, P::Fault>
     requires { P.takes from.now }
-    ensures { IfOk result (λ to. SameMeaning (P.In.shows from.now) (P.In.declares from.now) (P.Out.shows to) (P.Out.declares to)) }
+    ensures { IfOk result (λ to. SameMeaning
+        (P.In.shows from.now) (P.In.declares from.now) (P.Out.shows to) (P.Out.declares to)) }
 {
     pass.run(alloc, from)
 }

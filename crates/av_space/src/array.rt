@@ -69,7 +69,8 @@ impl<'a> Array<'a> {
     pub fn slots(&self, cell: usize) -> &[Slot]
         requires array { IsArray self.now }
         requires cell { cell < length (cells_of self.now) }
-        ensures { AreSlots (system_of self.now) (placings_of self.now) (cells_of self.now) cell result.now }
+        ensures { AreSlots (system_of self.now)
+            (placings_of self.now) (cells_of self.now) cell result.now }
     {
         self.layout.slots.as_slice()[cell].as_slice()
     }
@@ -78,7 +79,8 @@ impl<'a> Array<'a> {
     pub fn line_length(&self, cell: usize, helper: Option<usize>) -> u32
         requires array { IsArray self.now }
         requires cell { cell < length (cells_of self.now) }
-        ensures { result ≡ line_length (system_of self.now) (helpers_of self.now) (cells_of self.now) self.now.cells.now.links cell helper }
+        ensures { result ≡ line_length (system_of self.now)
+            (helpers_of self.now) (cells_of self.now) self.now.cells.now.links cell helper }
     {
         let line = DelayLine {
             cell: cell as u32,

@@ -21,7 +21,8 @@ fn raised(time: &Time, points: &[Point], count: u128) -> u128
     requires fits { count ≤ 2 ^ 107 }
     ensures from { count ≤ result }
     ensures above { All (λ z. cycle time.now z <ℤ pos result) points.now }
-    ensures least { (m : ℕ) → count ≤ m → All (λ z. cycle time.now z <ℤ pos m) points.now → result ≤ m }
+    ensures least { (m : ℕ) → count ≤ m
+        → All (λ z. cycle time.now z <ℤ pos m) points.now → result ≤ m }
     ensures fits { result ≤ 2 ^ 107 }
 {
     let mut most = count;

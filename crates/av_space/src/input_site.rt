@@ -58,7 +58,8 @@ impl InputSite<'_> {
     pub(crate) fn line(&self, alloc: Global, port: usize, slot: &Slot) -> Result<Entry, Memory>
         requires readable { IsReadable self.now.domain.now self.now.direction self.now.map.now }
         requires point { IsPointOf self.now.domain.now slot.now.point }
-        ensures { IfOk result (λ line. line ≡ line_of port self.now.input.now.name self.now.map.now slot.now) }
+        ensures { IfOk result (λ line.
+            line ≡ line_of port self.now.input.now.name self.now.map.now slot.now) }
     {
         let variable = Name::new(alloc, self.input.name.as_str())?;
         let wire = format!(in alloc; "i{port}")?;

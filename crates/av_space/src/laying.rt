@@ -35,7 +35,9 @@ fn node_cells(
     requires placing { IsPlacing placement.now }
     requires time { slice_get timed.now.times node ≡ Some placement.now.time }
     requires ends { HasFewCycles timed.now }
-    ensures number { IfOk result (λ count. (placings : Items Placing) → slice_get placings node ≡ Some placement.now → HasCellCount (view_system timed.now.flat) placings node (node + 1) count) }
+    ensures number { IfOk result (λ count. (placings : Items Placing)
+        → slice_get placings node ≡ Some placement.now
+        → HasCellCount (view_system timed.now.flat) placings node (node + 1) count) }
     ensures some { IfOk result (λ count. 0 < count) }
 {
     let all = node_ranked(alloc, timed, places, node, placement)?;
@@ -60,7 +62,8 @@ fn cell_count(
     requires places { places.now ≡ places_of (view_system timed.now.flat) }
     requires placings { ArePlacings timed.now.times placements.now }
     requires ends { HasFewCycles timed.now }
-    ensures number { IfOk result (HasCellCount (view_system timed.now.flat) placements.now 0 (length places.now)) }
+    ensures number { IfOk result
+        (HasCellCount (view_system timed.now.flat) placements.now 0 (length places.now)) }
     ensures nodes { IfOk result (λ count. length places.now ≤ count) }
 {
     let placements = placements.as_slice();
@@ -100,10 +103,12 @@ fn add_node(
     requires time { slice_get timed.now.times node ≡ Some placement.now.time }
     requires ends { HasFewCycles timed.now }
     requires few { node < 2 ^ 32 }
-    ensures cells { OnOk result ((placings : Items Placing) → slice_get placings node ≡ Some placement.now →
-        AreCellsIn (view_system timed.now.flat) placings 0 node cells.old → AreCellsIn (view_system timed.now.flat) placings 0 (node + 1) cells.new) }
-    ensures slots { OnOk result ((placings : Items Placing) → slice_get placings node ≡ Some placement.now →
-        AreFilled (view_system timed.now.flat) placings cells.old slots.old → AreFilled (view_system timed.now.flat) placings cells.new slots.new) }
+    ensures cells { OnOk result ((placings : Items Placing) → slice_get placings node
+        ≡ Some placement.now → AreCellsIn (view_system timed.now.flat) placings 0 node cells.old
+        → AreCellsIn (view_system timed.now.flat) placings 0 (node + 1) cells.new) }
+    ensures slots { OnOk result ((placings : Items Placing) → slice_get placings node
+        ≡ Some placement.now → AreFilled (view_system timed.now.flat) placings cells.old slots.old
+        → AreFilled (view_system timed.now.flat) placings cells.new slots.new) }
 {
     let all = node_ranked(alloc, timed, places, node, placement)?;
     let ranked = all.as_slice();
@@ -137,8 +142,10 @@ fn add_nodes(
     requires few { length places.now < 2 ^ 32 }
     requires cells { cells.old ≡ [] }
     requires slots { slots.old ≡ [] }
-    ensures cells { OnOk result (AreCellsIn (view_system timed.now.flat) placements.now 0 (length places.now) cells.new) }
-    ensures slots { OnOk result (AreFilled (view_system timed.now.flat) placements.now cells.new slots.new) }
+    ensures cells { OnOk result
+        (AreCellsIn (view_system timed.now.flat) placements.now 0 (length places.now) cells.new) }
+    ensures slots { OnOk result
+        (AreFilled (view_system timed.now.flat) placements.now cells.new slots.new) }
 {
     let placements = placements.as_slice();
     for node in 0..places.len() {
@@ -166,8 +173,10 @@ fn cells_filled(
     requires placings { ArePlacings timed.now.times placements.now }
     requires ends { HasFewCycles timed.now }
     requires few { length places.now ≤ 2048 }
-    ensures cells { IfOk result (λ f. AreCellsIn (view_system timed.now.flat) placements.now 0 (length places.now) f.cells) }
-    ensures slots { IfOk result (λ f. AreFilled (view_system timed.now.flat) placements.now f.cells f.slots) }
+    ensures cells { IfOk result (λ f.
+        AreCellsIn (view_system timed.now.flat) placements.now 0 (length places.now) f.cells) }
+    ensures slots { IfOk result (λ f.
+        AreFilled (view_system timed.now.flat) placements.now f.cells f.slots) }
 {
     let mut cells = List::new(alloc);
     let mut slots = List::new(alloc);
@@ -197,7 +206,8 @@ fn laid(
     requires numbers { numbers ≡ numbers_of (view_system _timed.now.flat) }
     requires cycles { IsCycles _timed.now cycles }
     requires limit { cycles ≤ 4096 }
-    requires cells { AreCellsIn (view_system _timed.now.flat) placements 0 (length places) filled.cells }
+    requires cells { AreCellsIn (view_system _timed.now.flat) placements 0
+        (length places) filled.cells }
     requires slots { AreFilled (view_system _timed.now.flat) placements filled.cells filled.slots }
     requires few { length filled.cells ≤ 2048 }
     ensures { IsLayout _timed.now result }
@@ -261,7 +271,8 @@ fn limit_cells(
 ) -> Result<(), SpaceFault>
     requires places { _places.now ≡ places_of (view_system _timed.now.flat) }
     requires placings { ArePlacings _timed.now.times _placements.now }
-    requires cells { AreCellsIn (view_system _timed.now.flat) _placements.now 0 (length _places.now) cells.now }
+    requires cells { AreCellsIn (view_system _timed.now.flat) _placements.now 0
+        (length _places.now) cells.now }
     requires cycles { IsCycles _timed.now _cycles }
     requires limit { _cycles ≤ 4096 }
     ensures few { OnOk result (length cells.now ≤ 2048) }

@@ -23,7 +23,8 @@ pub(crate) fn lengthened(
 ) -> Result<u32, Memory>
     ensures by { IfOk result (λ by. by ≡ delay - length_in lengths.old line) }
     ensures small { IfOk result (λ by. by < 2 ^ 32) }
-    ensures all { OnOk result ((q : LineSeen) → length_in lengths.new q ≡ (if is_line line q then max (length_in lengths.old q) delay else length_in lengths.old q)) }
+    ensures all { OnOk result ((q : LineSeen) → length_in lengths.new q ≡ (if is_line line q
+        then max (length_in lengths.old q) delay else length_in lengths.old q)) }
 {
     let length = match lengths.get(&line) {
         Some(length) => *length,

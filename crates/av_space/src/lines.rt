@@ -36,8 +36,10 @@ fn line_of(
     stretch: &Stretch,
 ) -> DelayLine
     requires sites { AreNodeTaps (view_system timed.now.flat) timed.now.helpers sites.now }
-    requires stretch { IsStretch (view_system timed.now.flat) timed.now.helpers layout.now.placements layout.now.cells stretch.now }
-    ensures { result ≡ line_of (view_system timed.now.flat) timed.now.helpers layout.now.cells stretch.now }
+    requires stretch { IsStretch (view_system timed.now.flat)
+        timed.now.helpers layout.now.placements layout.now.cells stretch.now }
+    ensures { result ≡ line_of
+        (view_system timed.now.flat) timed.now.helpers layout.now.cells stretch.now }
 {
     let cell = &layout.cells.as_slice()[stretch.consumer as usize];
     let own = taps_of_node(sites, cell.node as usize);
@@ -56,8 +58,10 @@ pub(crate) fn line_lengths(
 ) -> Result<BTreeMap<DelayLine, u32>, Memory>
     requires legal { IsLegal timed.now }
     requires layout { IsLayout timed.now layout.now }
-    requires links { AreLinks (view_system timed.now.flat) timed.now.helpers layout.now.placements layout.now.cells links.now }
-    ensures { IfOk result (AreLengths (view_system timed.now.flat) timed.now.helpers layout.now.cells links.now) }
+    requires links { AreLinks (view_system timed.now.flat)
+        timed.now.helpers layout.now.placements layout.now.cells links.now }
+    ensures { IfOk result
+        (AreLengths (view_system timed.now.flat) timed.now.helpers layout.now.cells links.now) }
 {
     let sites = node_taps(alloc, timed, layout)?;
     let mut lengths = BTreeMap::new(alloc);
@@ -77,8 +81,10 @@ pub(crate) fn delay_count(
 ) -> Result<u128, Memory>
     requires legal { IsLegal timed.now }
     requires layout { IsLayout timed.now layout.now }
-    requires links { AreLinks (view_system timed.now.flat) timed.now.helpers layout.now.placements layout.now.cells stretches.now }
-    ensures { IfOk result (λ count. count ≡ delay_count (view_system timed.now.flat) timed.now.helpers layout.now.cells stretches.now) }
+    requires links { AreLinks (view_system timed.now.flat)
+        timed.now.helpers layout.now.placements layout.now.cells stretches.now }
+    ensures { IfOk result (λ count. count ≡ delay_count
+        (view_system timed.now.flat) timed.now.helpers layout.now.cells stretches.now) }
 {
     let sites = node_taps(alloc, timed, layout)?;
     let mut lengths = BTreeMap::new(alloc);

@@ -43,11 +43,13 @@ pub(crate) fn reading_at(
     requires legal { IsLegal timed.now }
     requires layout { IsLayout timed.now layout.now }
     requires fine { IsFineTap piece.now.domain.dim (length timed.now.flat.vars) (tap_of site.now) }
-    requires site { (slots : Items SlotSeen) × Contains slots slot.now
-        × IsSite (view_system timed.now.flat) timed.now.helpers layout.now.placements layout.now.cells node (tap_of site.now) (view_piece piece.now) slots }
+    requires site { (slots : Items SlotSeen)
+        × Contains slots slot.now × IsSite (view_system timed.now.flat) timed.now.helpers
+        layout.now.placements layout.now.cells node (tap_of site.now) (view_piece piece.now) slots }
     ensures cycle { IfSome result (λ r. r.cycle ≡ slot.now.cycle) }
-    ensures reading { (q d : ℕ) →
-        IsReadingAt (view_system timed.now.flat) layout.now.placements layout.now.cells node (tap_of site.now) (view_piece piece.now) slot.now.point slot.now.cycle q d
+    ensures reading { (q d : ℕ)
+        → IsReadingAt (view_system timed.now.flat) layout.now.placements layout.now.cells node
+        (tap_of site.now) (view_piece piece.now) slot.now.point slot.now.cycle q d
         ↔ (result ≡ Some (record { cycle = slot.now.cycle; producer = q; delay = d })) }
 {
     if !is_in(&piece.domain, &slot.point) {
@@ -75,9 +77,11 @@ fn readings(
     requires legal { IsLegal timed.now }
     requires layout { IsLayout timed.now layout.now }
     requires fine { IsFineTap piece.now.domain.dim (length timed.now.flat.vars) (tap_of site.now) }
-    requires site { IsSite (view_system timed.now.flat) timed.now.helpers layout.now.placements layout.now.cells node (tap_of site.now) (view_piece piece.now) slots.now }
+    requires site { IsSite (view_system timed.now.flat) timed.now.helpers layout.now.placements
+        layout.now.cells node (tap_of site.now) (view_piece piece.now) slots.now }
     ensures { IfOk result (AreReadings
-        (IsReadingOf (view_system timed.now.flat) layout.now.placements layout.now.cells node (tap_of site.now) (view_piece piece.now) slots.now)) }
+        (IsReadingOf (view_system timed.now.flat) layout.now.placements layout.now.cells node
+        (tap_of site.now) (view_piece piece.now) slots.now)) }
 {
     let mut readings = List::new(alloc);
     for slot in slots {
@@ -108,11 +112,14 @@ fn tap_stretches(
 ) -> Result<(), Memory>
     requires legal { IsLegal timed.now }
     requires layout { IsLayout timed.now layout.now }
-    requires consumer { IsConsumer (view_system timed.now.flat) layout.now.placements layout.now.cells
-        consumer.now.number consumer.now.node (view_variable consumer.now.var.now) consumer.now.slots.now }
-    requires site { slice_get (taps (view_system timed.now.flat) timed.now.helpers (node_place (view_system timed.now.flat) consumer.now.node) (view_variable consumer.now.var.now)) number
+    requires consumer { IsConsumer (view_system timed.now.flat)
+        layout.now.placements layout.now.cells consumer.now.number consumer.now.node
+        (view_variable consumer.now.var.now) consumer.now.slots.now }
+    requires site { slice_get (taps (view_system timed.now.flat) timed.now.helpers (node_place
+        (view_system timed.now.flat) consumer.now.node) (view_variable consumer.now.var.now)) number
         ≡ Some (tap_of site.now) }
-    ensures { OnOk result (HasLinks (IsTapped (view_system timed.now.flat) timed.now.helpers layout.now.placements layout.now.cells)
+    ensures { OnOk result (HasLinks (IsTapped
+        (view_system timed.now.flat) timed.now.helpers layout.now.placements layout.now.cells)
         (IsAt consumer.now.number number) stretches.old stretches.new) }
 {
     let piece = piece_at(consumer.var, site.piece());
@@ -139,11 +146,14 @@ fn cell_stretches(
 ) -> Result<(), Memory>
     requires legal { IsLegal timed.now }
     requires layout { IsLayout timed.now layout.now }
-    requires consumer { IsConsumer (view_system timed.now.flat) layout.now.placements layout.now.cells
-        consumer.now.number consumer.now.node (view_variable consumer.now.var.now) consumer.now.slots.now }
-    requires sites { map tap_of sites.now
-        ≡ taps (view_system timed.now.flat) timed.now.helpers (node_place (view_system timed.now.flat) consumer.now.node) (view_variable consumer.now.var.now) }
-    ensures { OnOk result (HasLinks (IsTapped (view_system timed.now.flat) timed.now.helpers layout.now.placements layout.now.cells)
+    requires consumer { IsConsumer (view_system timed.now.flat)
+        layout.now.placements layout.now.cells consumer.now.number consumer.now.node
+        (view_variable consumer.now.var.now) consumer.now.slots.now }
+    requires sites { map tap_of sites.now ≡ taps (view_system timed.now.flat) timed.now.helpers
+        (node_place (view_system timed.now.flat) consumer.now.node)
+        (view_variable consumer.now.var.now) }
+    ensures { OnOk result (HasLinks (IsTapped
+        (view_system timed.now.flat) timed.now.helpers layout.now.placements layout.now.cells)
         (IsOn consumer.now.number) stretches.old stretches.new) }
 {
     for (number, site) in sites.iter().enumerate() {
@@ -174,8 +184,8 @@ fn consumer_at<'a>(timed: &'a Timed, layout: &'a Layout, number: usize) -> Consu
     requires layout { IsLayout timed.now layout.now }
     requires number { number < length layout.now.cells }
     ensures number { result.number ≡ number }
-    ensures consumer { IsConsumer (view_system timed.now.flat) layout.now.placements layout.now.cells
-        result.number result.node (view_variable result.var.now) result.slots.now }
+    ensures consumer { IsConsumer (view_system timed.now.flat) layout.now.placements
+        layout.now.cells result.number result.node (view_variable result.var.now) result.slots.now }
 {
     let node = layout.cells.as_slice()[number].node as usize;
     Consumer {
@@ -202,7 +212,8 @@ pub(crate) fn stretches(
 ) -> Result<List<Stretch>, Memory>
     requires legal { IsLegal timed.now }
     requires layout { IsLayout timed.now layout.now }
-    ensures { IfOk result (AreLinks (view_system timed.now.flat) timed.now.helpers layout.now.placements layout.now.cells) }
+    ensures { IfOk result (AreLinks
+        (view_system timed.now.flat) timed.now.helpers layout.now.placements layout.now.cells) }
 {
     let sites = node_taps(alloc, timed, layout)?;
     let mut stretches = List::new(alloc);

@@ -63,7 +63,8 @@ pub(crate) fn locate(timed: &Timed, layout: &Layout, node: usize, z: &Point) -> 
     requires legal { IsLegal timed.now }
     requires layout { IsLayout timed.now layout.now }
     requires computation { IsComputation (view_system timed.now.flat) node z.now }
-    ensures { Computes (view_system timed.now.flat) layout.now.placements layout.now.cells result.cell result.cycle node z.now }
+    ensures { Computes (view_system timed.now.flat)
+        layout.now.placements layout.now.cells result.cell result.cycle node z.now }
 {
     let placements = layout.placements.as_slice();
     let placement = &placements[node];

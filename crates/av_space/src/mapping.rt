@@ -83,8 +83,10 @@ fn join_cells(
     requires links { LinksOf timed.now layout.now stretches.now }
     requires few { HasOperators timed.now layout.now 1048576 }
     ensures links { IfOk result (λ made. made.links ≡ stretches.now) }
-    ensures ports { IfOk result (λ made. ArePorts (view_system timed.now.flat) timed.now.helpers layout.now.placements layout.now.cells made.ports.inputs) }
-    ensures lines { IfOk result (λ made. AreInLines (view_system timed.now.flat) timed.now.helpers layout.now.placements layout.now.cells made.ports.inputs made.ports.ins) }
+    ensures ports { IfOk result (λ made. ArePorts (view_system timed.now.flat)
+        timed.now.helpers layout.now.placements layout.now.cells made.ports.inputs) }
+    ensures lines { IfOk result (λ made. AreInLines (view_system timed.now.flat)
+        timed.now.helpers layout.now.placements layout.now.cells made.ports.inputs made.ports.ins) }
     ensures few { IfOk result (λ made. length made.ports.inputs ≤ 2 ^ 64) }
 {
     let links = links(alloc, stretches)?;
@@ -96,8 +98,10 @@ fn join_cells(
 fn show_points(alloc: Global, timed: &Timed, layout: &Layout) -> Result<Shown, Memory>
     requires legal { IsLegal timed.now }
     requires layout { IsLayout timed.now layout.now }
-    ensures outputs { IfOk result (λ made. made.outputs ≡ output_cells (view_system timed.now.flat) layout.now.cells) }
-    ensures lines { IfOk result (λ made. AreAtLines (view_system timed.now.flat) layout.now.placements layout.now.cells made.outputs made.ats) }
+    ensures outputs { IfOk result (λ made.
+        made.outputs ≡ output_cells (view_system timed.now.flat) layout.now.cells) }
+    ensures lines { IfOk result (λ made. AreAtLines
+        (view_system timed.now.flat) layout.now.placements layout.now.cells made.outputs made.ats) }
     ensures few { IfOk result (λ made. length made.outputs ≤ 2 ^ 64) }
 {
     let outputs = output_cells(alloc, timed, layout)?;
@@ -162,7 +166,8 @@ fn limited(
 pub fn map(alloc: Global, timed: &Timed) -> Result<Cells, SpaceFault>
     requires { IsLegal timed.now }
     ensures whole { IfOk result (IsWhole timed.now) }
-    ensures complete { IfOk result (λ a. (f : Fault) → IsSpaceFault timed.now f → f ≡ fault.Memory) }
+    ensures complete { IfOk result (λ a. (f : Fault)
+        → IsSpaceFault timed.now f → f ≡ fault.Memory) }
     ensures refused { IfErr result (IsSpaceFault timed.now) }
 {
     let layout = layout(alloc, timed)?;

@@ -100,7 +100,8 @@ fn cell_operators(timed: &Timed, layout: &Layout, sizes: &[List<u32>], cell: usi
     requires layout { IsLayout timed.now layout.now }
     requires sizes { sizes.now ≡ map piece_sizes (nodes (view_system timed.now.flat)) }
     requires cell { cell < length layout.now.cells }
-    ensures count { IsCountOf (view_system timed.now.flat) layout.now.placements layout.now.cells (IsOnCell cell) result }
+    ensures count { IsCountOf (view_system timed.now.flat) layout.now.placements layout.now.cells
+        (IsOnCell cell) result }
     ensures most { result ≤ 2 ^ 96 }
 {
     let node = layout.cells.as_slice()[cell].node as usize;
@@ -120,7 +121,8 @@ fn cell_operators(timed: &Timed, layout: &Layout, sizes: &[List<u32>], cell: usi
 pub(crate) fn operators(alloc: Global, timed: &Timed, layout: &Layout) -> Result<u128, Memory>
     requires legal { IsLegal timed.now }
     requires layout { IsLayout timed.now layout.now }
-    ensures { IfOk result (IsOperatorCount (view_system timed.now.flat) layout.now.placements layout.now.cells) }
+    ensures { IfOk result
+        (IsOperatorCount (view_system timed.now.flat) layout.now.placements layout.now.cells) }
 {
     let sizes = all_sizes(alloc, timed, layout)?;
     let mut sum: u128 = 0;

@@ -115,9 +115,11 @@ impl Array<'_> {
         requires array { IsArray self.now }
         requires spot { IsSpot self.now spot.now }
         requires tap { IsSpotTap self.now spot.now (tap_of tap.now) }
-        requires slot { IsSlotIn self.now spot.now.cell spot.now.node spot.now.piece.now.domain slot.now }
-        ensures { MatchOption result (IsReadThere self.now spot.now (tap_of tap.now) slot.now → ⊥)
-            (λ r. IsReadThere self.now spot.now (tap_of tap.now) slot.now × IsLinkedBy self.now spot.now slot.now.cycle (tap_of tap.now) r.producer r.delay) }
+        requires slot { IsSlotIn self.now
+            spot.now.cell spot.now.node spot.now.piece.now.domain slot.now }
+        ensures { MatchOption result (IsReadThere self.now spot.now (tap_of tap.now) slot.now
+            → ⊥) (λ r. IsReadThere self.now spot.now (tap_of tap.now) slot.now
+            × IsLinkedBy self.now spot.now slot.now.cycle (tap_of tap.now) r.producer r.delay) }
     {
         reading_at(self.timed, &self.layout, spot.node, tap, spot.piece, slot)
     }
@@ -127,9 +129,12 @@ impl Array<'_> {
         requires array { IsArray self.now }
         requires spot { IsSpot self.now spot.now }
         requires site { IsPortSite self.now spot.now site.now }
-        requires slot { IsSlotIn self.now spot.now.cell spot.now.node spot.now.piece.now.domain slot.now }
-        requires entered { IsReadAt site.now.pipeline (view_piece spot.now.piece.now) slot.now.point }
-        ensures { slice_get self.now.cells.now.inputs result ≡ Some (record { cell = spot.now.cell; piece = spot.now.number; site = site.now.place.site }) }
+        requires slot { IsSlotIn self.now
+            spot.now.cell spot.now.node spot.now.piece.now.domain slot.now }
+        requires entered { IsReadAt site.now.pipeline
+            (view_piece spot.now.piece.now) slot.now.point }
+        ensures { slice_get self.now.cells.now.inputs result ≡ Some
+            (record { cell = spot.now.cell; piece = spot.now.number; site = site.now.place.site }) }
     {
         let place = &site.place;
         let port = PortPlace {
@@ -147,8 +152,10 @@ impl Array<'_> {
         requires spot { IsSpot self.now spot.now }
         requires site { IsSiteOf self.now spot.now site.now }
         requires computed { IsComputedRead (system_of self.now) (view site.now.place.tree) }
-        requires slot { IsSlotIn self.now spot.now.cell spot.now.node spot.now.piece.now.domain slot.now }
-        requires entered { IsReadAt site.now.pipeline (view_piece spot.now.piece.now) slot.now.point }
+        requires slot { IsSlotIn self.now
+            spot.now.cell spot.now.node spot.now.piece.now.domain slot.now }
+        requires entered { IsReadAt site.now.pipeline
+            (view_piece spot.now.piece.now) slot.now.point }
         ensures { MatchOption result
             ((place : ℕ) (y : PointSeen) → IsReadBy (view site.now.place.tree) slot.now.point place y → ⊥)
             (λ r. IsReadThere self.now spot.now (own_tap (place_of site.now.place) site.now.pipeline) slot.now
@@ -174,7 +181,8 @@ impl Array<'_> {
         requires spot { IsSpot self.now spot.now }
         requires site { IsSiteOf self.now spot.now site.now }
         requires pipeline { site.now.pipeline ≡ Some pipeline.now }
-        requires slot { IsSlotIn self.now spot.now.cell spot.now.node spot.now.piece.now.domain slot.now }
+        requires slot { IsSlotIn self.now
+            spot.now.cell spot.now.node spot.now.piece.now.domain slot.now }
         ensures { MatchOption result
             (IsTrue (has spot.now.piece.now.domain (before slot.now.point pipeline.now.direction)) → ⊥)
             (λ r. IsTrue (has spot.now.piece.now.domain (before slot.now.point pipeline.now.direction))
@@ -195,9 +203,12 @@ impl Array<'_> {
         requires array { IsArray self.now }
         requires spot { IsSpot self.now spot.now }
         requires site { IsSiteOf self.now spot.now site.now }
-        requires slot { IsSlotIn self.now spot.now.cell spot.now.node spot.now.piece.now.domain slot.now }
-        requires entered { IsReadAt site.now.pipeline (view_piece spot.now.piece.now) slot.now.point }
-        ensures { IsOriginBy self.now spot.now slot.now (place_of site.now.place) site.now.pipeline (view site.now.place.tree) result }
+        requires slot { IsSlotIn self.now
+            spot.now.cell spot.now.node spot.now.piece.now.domain slot.now }
+        requires entered { IsReadAt site.now.pipeline
+            (view_piece spot.now.piece.now) slot.now.point }
+        ensures { IsOriginBy self.now spot.now slot.now
+            (place_of site.now.place) site.now.pipeline (view site.now.place.tree) result }
     {
         let place = &site.place;
         match place.tree {

@@ -53,7 +53,8 @@ fn add_port(
 ) -> Result<(), Memory>
     requires readable { IsReadable site.now.domain.now site.now.direction site.now.map.now }
     requires points { All (λ t. IsPointOf site.now.domain.now t.point) slots.now }
-    ensures ports { OnOk result (ports.new ≡ with_port port site.now.input.now.name site.now.map.now ports.old
+    ensures ports { OnOk result (ports.new
+        ≡ with_port port site.now.input.now.name site.now.map.now ports.old
         (filter (λ t. is_entered site.now.domain.now site.now.direction t.point) slots.now)) }
     ensures few { OnOk result (length ports.new.inputs ≤ 2 ^ 64) }
 {
@@ -136,7 +137,8 @@ fn add_tree(
     requires at { IsNodePiece at.now }
     requires part { IsPart at.now number (view tree.now) }
     requires old { ArePortsAt at.now number at.now.first ports.old }
-    ensures { IfOk result (λ next. (next ≡ number + length (references (view tree.now))) × ArePortsAt at.now next at.now.first ports.new) }
+    ensures { IfOk result (λ next. (next ≡ number + length (references (view tree.now)))
+        × ArePortsAt at.now next at.now.first ports.new) }
 {
     match tree {
         Tree::Ref { var, map } => {
@@ -225,10 +227,14 @@ fn end_of(cells: &[Cell], node: usize, first: usize) -> usize
 fn add_nodes(alloc: Global, timed: &Timed, layout: &Layout, ports: &mut Ports) -> Result<(), Memory>
     requires legal { IsLegal timed.now }
     requires layout { IsLayout timed.now layout.now }
-    requires few { (m : ℕ) × IsOperatorCount (view_system timed.now.flat) layout.now.placements layout.now.cells m × (m ≤ 1048576) }
+    requires few { (m : ℕ)
+        × IsOperatorCount (view_system timed.now.flat) layout.now.placements layout.now.cells m
+        × (m ≤ 1048576) }
     requires none { ArePortsOf timed.now layout.now 0 0 0 ports.old }
-    ensures ports { OnOk result (ArePorts (view_system timed.now.flat) timed.now.helpers layout.now.placements layout.now.cells ports.new.inputs) }
-    ensures lines { OnOk result (AreInLines (view_system timed.now.flat) timed.now.helpers layout.now.placements layout.now.cells ports.new.inputs ports.new.ins) }
+    ensures ports { OnOk result (ArePorts (view_system timed.now.flat)
+        timed.now.helpers layout.now.placements layout.now.cells ports.new.inputs) }
+    ensures lines { OnOk result (AreInLines (view_system timed.now.flat)
+        timed.now.helpers layout.now.placements layout.now.cells ports.new.inputs ports.new.ins) }
     ensures few { OnOk result (length ports.new.inputs ≤ 2 ^ 64) }
 {
     let cells = layout.cells.as_slice();
@@ -245,9 +251,13 @@ fn add_nodes(alloc: Global, timed: &Timed, layout: &Layout, ports: &mut Ports) -
 pub(crate) fn input_ports(alloc: Global, timed: &Timed, layout: &Layout) -> Result<Ports, Memory>
     requires legal { IsLegal timed.now }
     requires layout { IsLayout timed.now layout.now }
-    requires few { (m : ℕ) × IsOperatorCount (view_system timed.now.flat) layout.now.placements layout.now.cells m × (m ≤ 1048576) }
-    ensures ports { IfOk result (λ p. ArePorts (view_system timed.now.flat) timed.now.helpers layout.now.placements layout.now.cells p.inputs) }
-    ensures lines { IfOk result (λ p. AreInLines (view_system timed.now.flat) timed.now.helpers layout.now.placements layout.now.cells p.inputs p.ins) }
+    requires few { (m : ℕ)
+        × IsOperatorCount (view_system timed.now.flat) layout.now.placements layout.now.cells m
+        × (m ≤ 1048576) }
+    ensures ports { IfOk result (λ p. ArePorts (view_system timed.now.flat)
+        timed.now.helpers layout.now.placements layout.now.cells p.inputs) }
+    ensures lines { IfOk result (λ p. AreInLines (view_system timed.now.flat)
+        timed.now.helpers layout.now.placements layout.now.cells p.inputs p.ins) }
     ensures few { IfOk result (λ p. length p.inputs ≤ 2 ^ 64) }
 {
     let mut ports = Ports {

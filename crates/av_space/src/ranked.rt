@@ -60,7 +60,8 @@ fn in_order(alloc: Global, placement: &Placement, points: &[Point]) -> Result<Ve
     requires placing { IsPlacing placement.now }
     requires few { length placement.now.time.linear ≤ 4 }
     requires timely { All (IsTimely placement.now) points.now }
-    ensures { IfOk result (λ v. IsPermutation (map (ranked_at placement.now) points.now) v.items × IsNonDecreasingBy (λ r. r.rank) v.items) }
+    ensures { IfOk result (λ v. IsPermutation (map (ranked_at placement.now) points.now) v.items
+        × IsNonDecreasingBy (λ r. r.rank) v.items) }
 {
     let mut all = Vec::new(alloc);
     for point in points {

@@ -77,7 +77,8 @@ pub(crate) fn before(point: &Point, direction: &Point) -> Point
 
 // What a pick reads: the image under the first choice whose set has the point.
 fn picked(choices: &[Choice], point: &Point) -> Option<Point>
-    requires choices { All (λ c. (c.set.dim ≡ length point.now) × (c.map.from ≡ length point.now) × All IsWithinLimits c.map.rows) choices.now }
+    requires choices { All (λ c. (c.set.dim ≡ length point.now)
+        × (c.map.from ≡ length point.now) × All IsWithinLimits c.map.rows) choices.now }
     requires small { AtMost 4095 point.now }
     ensures { result ≡ picked choices.now point.now }
 {
@@ -93,8 +94,9 @@ fn picked(choices: &[Choice], point: &Point) -> Option<Point>
 fn place_read(tree: &Tree, point: &Point) -> Option<PlaceRead>
     requires tree { (count : ℕ) × IsReadable (length point.now) count (view tree.now) }
     requires small { AtMost 4095 point.now }
-    ensures { MatchOption result ((place : ℕ) (y : PointSeen) → IsReadBy (view tree.now) point.now place y → ⊥)
-        (λ r. IsReadBy (view tree.now) point.now r.place r.point) }
+    ensures { MatchOption result ((place : ℕ) (y : PointSeen)
+        → IsReadBy (view tree.now) point.now place y → ⊥) (λ r.
+        IsReadBy (view tree.now) point.now r.place r.point) }
 {
     match tree {
         Tree::Ref { var, map } => Some(PlaceRead {
@@ -123,8 +125,10 @@ fn node_read(timed: &Timed, layout: &Layout, tree: &Tree, point: &Point) -> Opti
     requires layout { IsLayout timed.now layout.now }
     requires tree { IsReadable (length point.now) (length timed.now.flat.vars) (view tree.now) }
     requires small { AtMost 4095 point.now }
-    ensures { MatchOption result ((place : ℕ) (y : PointSeen) → IsReadBy (view tree.now) point.now place y → ⊥)
-        (λ r. (place : ℕ) × IsReadBy (view tree.now) point.now place r.point × (r.node ≡ number_at (view_system timed.now.flat) place)) }
+    ensures { MatchOption result ((place : ℕ) (y : PointSeen)
+        → IsReadBy (view tree.now) point.now place y → ⊥) (λ r. (place : ℕ)
+        × IsReadBy (view tree.now) point.now place r.point
+        × (r.node ≡ number_at (view_system timed.now.flat) place)) }
 {
     let read = place_read(tree, point)?;
     Some(Read {
@@ -154,9 +158,10 @@ pub(crate) fn read_at(
     requires layout { IsLayout timed.now layout.now }
     requires site { IsFineTap piece.now.domain.dim (length timed.now.flat.vars) (tap_of site.now) }
     requires point { IsSmallIn piece.now.domain point.now }
-    ensures { MatchOption result
-        ((k : ℕ) (y : PointSeen) → IsTapRead (view_system timed.now.flat) node (view site.now.place.tree) (way_of site.now.way) (view_piece piece.now) point.now k y → ⊥)
-        (λ r. IsTapRead (view_system timed.now.flat) node (view site.now.place.tree) (way_of site.now.way) (view_piece piece.now) point.now r.node r.point) }
+    ensures { MatchOption result ((k : ℕ) (y : PointSeen) → IsTapRead (view_system timed.now.flat)
+        node (view site.now.place.tree) (way_of site.now.way) (view_piece piece.now) point.now k y
+        → ⊥) (λ r. IsTapRead (view_system timed.now.flat) node (view site.now.place.tree)
+        (way_of site.now.way) (view_piece piece.now) point.now r.node r.point) }
 {
     match &site.way {
         Way::Each => node_read(timed, layout, site.place.tree, point),

@@ -58,7 +58,8 @@ pub(crate) fn output_cells(
 ) -> Result<List<u32>, Memory>
     requires legal { IsLegal timed.now }
     requires layout { IsLayout timed.now layout.now }
-    ensures { IfOk result (λ outputs. outputs ≡ output_cells (view_system timed.now.flat) layout.now.cells) }
+    ensures { IfOk result (λ outputs.
+        outputs ≡ output_cells (view_system timed.now.flat) layout.now.cells) }
 {
     let places = layout.places.as_slice();
     let mut outputs = List::new(alloc);
@@ -87,9 +88,11 @@ impl ShownNode<'_> {
     // The line of a point of the node.
     fn line(&self, alloc: Global, z: &Point) -> Result<Entry, Memory>
         requires node { IsShownNode self.now }
-        requires computation { IsComputation (view_system self.now.timed.now.flat) self.now.node z.now }
-        ensures { IfOk result (λ line. (line.point ≡ z.now)
-            × IsAtLine (view_system self.now.timed.now.flat) self.now.layout.now.placements self.now.layout.now.cells self.now.outputs.now (record { node = self.now.node; entry = line })) }
+        requires computation { IsComputation (view_system self.now.timed.now.flat)
+            self.now.node z.now }
+        ensures { IfOk result (λ line. (line.point ≡ z.now) × IsAtLine (view_system
+            self.now.timed.now.flat) self.now.layout.now.placements self.now.layout.now.cells
+            self.now.outputs.now (record { node = self.now.node; entry = line })) }
     {
         let located = locate(self.timed, self.layout, self.node, z);
         Ok(Entry {
@@ -104,8 +107,10 @@ impl ShownNode<'_> {
 // Appends the lines of a node to those of earlier nodes.
 fn add_lines(alloc: Global, shown: &ShownNode, lines: &mut List<Entry>) -> Result<(), Memory>
     requires node { IsShownNode shown.now }
-    requires old { AreLinesBelow shown.now.timed.now shown.now.layout.now shown.now.outputs.now shown.now.node lines.old }
-    ensures { OnOk result (AreLinesBelow shown.now.timed.now shown.now.layout.now shown.now.outputs.now (shown.now.node + 1) lines.new) }
+    requires old { AreLinesBelow shown.now.timed.now
+        shown.now.layout.now shown.now.outputs.now shown.now.node lines.old }
+    ensures { OnOk result (AreLinesBelow shown.now.timed.now
+        shown.now.layout.now shown.now.outputs.now (shown.now.node + 1) lines.new) }
 {
     let places = shown.layout.places.as_slice();
     let points = node_points(alloc, shown.timed, places, shown.node)?;
@@ -125,7 +130,8 @@ pub(crate) fn at_lines(
     requires legal { IsLegal timed.now }
     requires layout { IsLayout timed.now layout.now }
     requires outputs { outputs.now ≡ output_cells (view_system timed.now.flat) layout.now.cells }
-    ensures { IfOk result (AreAtLines (view_system timed.now.flat) layout.now.placements layout.now.cells outputs.now) }
+    ensures { IfOk result (AreAtLines
+        (view_system timed.now.flat) layout.now.placements layout.now.cells outputs.now) }
 {
     let places = layout.places.as_slice();
     let mut lines = List::new(alloc);

@@ -89,7 +89,8 @@ fn places<'a>(
     number: usize,
     piece: &'a Piece,
 ) -> Result<List<ReadingPlace<'a>>, Memory>
-    ensures { IfOk result (λ places. map place_of places ≡ places_in number 0 (view piece.now.tree)) }
+    ensures { IfOk result (λ places.
+        map place_of places ≡ places_in number 0 (view piece.now.tree)) }
 {
     let mut places = List::new(alloc);
     tree_places(number, 0, &piece.tree, &mut places)?;

@@ -31,9 +31,23 @@ impl Model for Stretch {
 
     ghost Value = { Link };
 
-    ghost view = { λ s. record { consumer = s.consumer; producer = s.producer; site = s.site; delay = s.delay; first = s.first; last = s.last } };
+    ghost view = { λ s. record {
+      consumer = s.consumer;
+      producer = s.producer;
+      site = s.site;
+      delay = s.delay;
+      first = s.first;
+      last = s.last;
+    } };
 
-    ghost inverse = { λ l. record { consumer = l.consumer; producer = l.producer; site = l.site; delay = l.delay; first = l.first; last = l.last } };
+    ghost inverse = { λ l. record {
+      consumer = l.consumer;
+      producer = l.producer;
+      site = l.site;
+      delay = l.delay;
+      first = l.first;
+      last = l.last;
+    } };
 }
 
 impl Stretch {
@@ -54,7 +68,14 @@ impl Stretch {
 
 // The stretch that begins with a reading.
 fn begun(consumer: u32, site: usize, reading: &TapReading) -> Stretch
-    ensures { result ≡ record { consumer = consumer; producer = reading.now.producer; site = site; delay = reading.now.delay; first = reading.now.cycle; last = reading.now.cycle } }
+    ensures { result ≡ record {
+      consumer = consumer;
+      producer = reading.now.producer;
+      site = site;
+      delay = reading.now.delay;
+      first = reading.now.cycle;
+      last = reading.now.cycle;
+    } }
 {
     Stretch {
         consumer,
@@ -68,7 +89,8 @@ fn begun(consumer: u32, site: usize, reading: &TapReading) -> Stretch
 
 // Whether the reading has the producer and the delay of the stretch.
 fn continues(stretch: &Stretch, reading: &TapReading) -> bool
-    ensures { IsTrue result ↔ ((reading.now.producer ≡ stretch.now.producer) × (reading.now.delay ≡ stretch.now.delay)) }
+    ensures { IsTrue result ↔ ((reading.now.producer ≡ stretch.now.producer)
+        × (reading.now.delay ≡ stretch.now.delay)) }
 {
     reading.producer == stretch.producer && reading.delay == stretch.delay
 }
@@ -91,7 +113,8 @@ pub(crate) fn site_stretches(
     stretches: &mut List<Stretch>,
 ) -> Result<(), Memory>
     requires { AreByCycle readings.now }
-    ensures { OnOk result (HasLinks (Told readings.now) (IsAt consumer site) stretches.old stretches.new) }
+    ensures { OnOk result
+        (HasLinks (Told readings.now) (IsAt consumer site) stretches.old stretches.new) }
 {
     let Some((first, rest)) = readings.split_first() else {
         return Ok(());

@@ -61,7 +61,8 @@ pub(crate) fn tree_places<'a>(
 
 // The places of pieces that read, in order.
 fn piece_places<'a>(alloc: Global, pieces: &'a [Piece]) -> Result<List<ReadingPlace<'a>>, Memory>
-    ensures { IfOk result (λ places. map place_of places ≡ places_from 0 (map view_piece pieces.now)) }
+    ensures { IfOk result (λ places.
+        map place_of places ≡ places_from 0 (map view_piece pieces.now)) }
 {
     let mut places = List::new(alloc);
     for (number, piece) in pieces.iter().enumerate() {
@@ -72,7 +73,8 @@ fn piece_places<'a>(alloc: Global, pieces: &'a [Piece]) -> Result<List<ReadingPl
 
 // Whether the helper is of this reference.
 fn is_of(helper: &Helper, place: usize, piece: usize, site: usize) -> bool
-    ensures { result ≡ nat_eq helper.now.var place && nat_eq helper.now.piece piece && nat_eq helper.now.site site }
+    ensures { result ≡ nat_eq
+        helper.now.var place && nat_eq helper.now.piece piece && nat_eq helper.now.site site }
 {
     helper.var as usize == place && helper.piece as usize == piece && helper.site as usize == site
 }
@@ -115,7 +117,8 @@ fn add_taps_by<'a>(
     place: &ReadingPlace<'a>,
     sites: &mut List<TapSite<'a>>,
 ) -> Result<(), Memory>
-    ensures { OnOk result (map tap_of sites.new ≡ map tap_of sites.old ++ taps_by computed pipeline (place_of place.now)) }
+    ensures { OnOk result (map tap_of sites.new
+        ≡ map tap_of sites.old ++ taps_by computed pipeline (place_of place.now)) }
 {
     let Some(pipeline) = pipeline else {
         if computed {
@@ -145,8 +148,8 @@ fn add_taps<'a>(
     place: &ReadingPlace<'a>,
     sites: &mut List<TapSite<'a>>,
 ) -> Result<(), Memory>
-    ensures { OnOk result (map tap_of sites.new ≡ map tap_of sites.old
-        ++ taps_at (view_system timed.now.flat) timed.now.helpers own (view place.now.tree) (place_of place.now)) }
+    ensures { OnOk result (map tap_of sites.new ≡ map tap_of sites.old ++ taps_at (view_system
+        timed.now.flat) timed.now.helpers own (view place.now.tree) (place_of place.now)) }
 {
     match place.tree {
         Tree::Ref { var, .. } => {
@@ -179,8 +182,8 @@ fn add_taps_of<'a>(
     places: &[ReadingPlace<'a>],
     sites: &mut List<TapSite<'a>>,
 ) -> Result<(), Memory>
-    ensures { OnOk result (map tap_of sites.new ≡ map tap_of sites.old
-        ++ taps_where (view_system timed.now.flat) timed.now.helpers own picks (map place_of places.now)) }
+    ensures { OnOk result (map tap_of sites.new ≡ map tap_of sites.old ++ taps_where
+        (view_system timed.now.flat) timed.now.helpers own picks (map place_of places.now)) }
 {
     for place in places {
         if is_own(own, place) == picks {
@@ -197,7 +200,8 @@ pub(crate) fn taps_of<'a>(
     own: usize,
     var: &'a Var,
 ) -> Result<List<TapSite<'a>>, Memory>
-    ensures { IfOk result (λ sites. map tap_of sites ≡ taps (view_system timed.now.flat) timed.now.helpers own (view_variable var.now)) }
+    ensures { IfOk result (λ sites. map tap_of sites
+        ≡ taps (view_system timed.now.flat) timed.now.helpers own (view_variable var.now)) }
 {
     let places = piece_places(alloc, var.pieces.as_slice())?;
     let mut sites = List::new(alloc);

@@ -45,7 +45,8 @@ fn image(matrix: &Square, entries: &[i64]) -> Option<Point>
     requires size { matrix.now.size ≡ length entries.now }
     requires few { length entries.now ≤ 4 }
     requires fits { AtMost (2 ^ 18) entries.now }
-    ensures some { IfSome result (λ z. (z ≡ along (rows_of matrix.now) entries.now) × AtMost 4095 z) }
+    ensures some { IfSome result (λ z. (z ≡ along (rows_of matrix.now) entries.now)
+        × AtMost 4095 z) }
     ensures none { IfNone result (AtMost 4095 (along (rows_of matrix.now) entries.now) → ⊥) }
 {
     let size = matrix.size as usize;
@@ -67,7 +68,8 @@ fn quotient(cycle: u32, time: &Time, placed: &Placed) -> Option<i64>
     requires positive { pos 0 <ℤ placed.now.gcd }
     requires small { placed.now.gcd ≤ℤ pos 4 }
     ensures some { IfSome result (λ n. n *ℤ placed.now.gcd ≡ (pos cycle -ℤ time.now.offset)) }
-    ensures none { IfNone result ((n : ℤ) → n *ℤ placed.now.gcd ≡ (pos cycle -ℤ time.now.offset) → ⊥) }
+    ensures none { IfNone result ((n : ℤ)
+        → n *ℤ placed.now.gcd ≡ (pos cycle -ℤ time.now.offset) → ⊥) }
 {
     let since = i64::from(cycle) - time.offset;
     let number = since.div_euclid(placed.gcd);
@@ -87,8 +89,10 @@ fn point_at(time: &Time, placed: &Placed, at: &Point, cycle: u32) -> Option<Poin
     requires timely { cycle ≤ 4096 }
     ensures some { IfSome result (StandsAt (placing_by time.now (Some placed.now)) at.now cycle) }
     ensures small { IfSome result (AtMost 4095) }
-    ensures only { IfSome result (λ z. (y : Items ℤ) → StandsAt (placing_by time.now (Some placed.now)) at.now cycle y → y ≡ z) }
-    ensures none { IfNone result ((z : Items ℤ) → AtMost 4095 z → StandsAt (placing_by time.now (Some placed.now)) at.now cycle z → ⊥) }
+    ensures only { IfSome result (λ z. (y : Items ℤ)
+        → StandsAt (placing_by time.now (Some placed.now)) at.now cycle y → y ≡ z) }
+    ensures none { IfNone result ((z : Items ℤ)
+        → AtMost 4095 z → StandsAt (placing_by time.now (Some placed.now)) at.now cycle z → ⊥) }
 {
     let number = quotient(cycle, time, placed)?;
     image(&placed.inverse, before(number, at).as_slice())
@@ -103,8 +107,10 @@ fn candidate(time: &Time, matrix: &Option<Placed>, at: &Point, cycle: u32) -> Op
     requires timely { cycle ≤ 4096 }
     ensures some { IfSome result (StandsAt (placing_by time.now matrix.now) at.now cycle) }
     ensures small { IfSome result (AtMost 4095) }
-    ensures only { IfSome result (λ z. (y : Items ℤ) → StandsAt (placing_by time.now matrix.now) at.now cycle y → y ≡ z) }
-    ensures none { IfNone result ((z : Items ℤ) → AtMost 4095 z → StandsAt (placing_by time.now matrix.now) at.now cycle z → ⊥) }
+    ensures only { IfSome result (λ z. (y : Items ℤ)
+        → StandsAt (placing_by time.now matrix.now) at.now cycle y → y ≡ z) }
+    ensures none { IfNone result ((z : Items ℤ)
+        → AtMost 4095 z → StandsAt (placing_by time.now matrix.now) at.now cycle z → ⊥) }
 {
     match matrix {
         Some(placed) => point_at(time, placed, at, cycle),
@@ -127,8 +133,10 @@ pub(crate) fn stands(
     requires size { length at.now ≡ length (placing_by time.now matrix.now).rows }
     requires timely { cycle ≤ 4096 }
     requires indices { length time.now.linear ≡ var.now.domain.dim }
-    requires points { (z : Items ℤ) → IsTrue (has (view_variable var.now).domain z) → AtMost 4095 z }
-    ensures { IsTrue result ↔ Stands (view_variable var.now) (placing_by time.now matrix.now) at.now cycle }
+    requires points { (z : Items ℤ) → IsTrue (has (view_variable var.now).domain z)
+        → AtMost 4095 z }
+    ensures { IsTrue result
+        ↔ Stands (view_variable var.now) (placing_by time.now matrix.now) at.now cycle }
 {
     match candidate(time, matrix, at, cycle) {
         Some(point) => var.domain.contains(&point),

@@ -37,7 +37,8 @@ impl<'a, T: Copy> NameMap<'a, T> {
 
     /// Appends a name with its value. A name that is there keeps the value that it has.
     pub fn insert(&mut self, name: &'a [u8], value: T) -> Result<(), Memory>
-        ensures all { OnOk result (self.new ≡ (if is_some (lookup (bytes_eq name.now) self.old) then self.old else self.old ++ (name.now, value) ∷ [])) }
+        ensures all { OnOk result (self.new ≡ (if is_some (lookup (bytes_eq name.now) self.old)
+            then self.old else self.old ++ (name.now, value) ∷ [])) }
         ensures kept { OnErr result (self.new ≡ self.old) }
     {
         if self.values.contains_key(name) {

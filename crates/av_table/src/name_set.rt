@@ -33,8 +33,10 @@ impl<'a> NameSet<'a> {
 
     /// Appends a name, unless it is among them. Whether it was not.
     pub fn insert(&mut self, name: &'a [u8]) -> Result<bool, Memory>
-        ensures is_new { IfOk result (λ is_new. is_new ≡ not (list_any (bytes_eq name.now) self.old)) }
-        ensures all { OnOk result (self.new ≡ (if list_any (bytes_eq name.now) self.old then self.old else self.old ++ name.now ∷ [])) }
+        ensures is_new { IfOk result (λ is_new.
+            is_new ≡ not (list_any (bytes_eq name.now) self.old)) }
+        ensures all { OnOk result (self.new ≡ (if list_any (bytes_eq name.now) self.old
+            then self.old else self.old ++ name.now ∷ [])) }
         ensures kept { OnErr result (self.new ≡ self.old) }
     {
         match self.names.insert(name) {

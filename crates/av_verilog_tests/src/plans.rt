@@ -189,7 +189,8 @@ fn instance(
     inputs: List<Operand>,
     output: &str,
 ) -> Result<Instance, Memory>
-    ensures { IfOk result (λ instance. instance ≡ instance_of name.now kind inputs (output.now ∷ [])) }
+    ensures { IfOk result (λ instance.
+        instance ≡ instance_of name.now kind inputs (output.now ∷ [])) }
 {
     let name = Name::new(alloc, name)?;
     let outputs = one_name(alloc, output)?;
@@ -211,7 +212,8 @@ fn cell(
     width: Width,
     operation: Operation,
 ) -> Result<CellKind, Memory>
-    ensures { IfOk result (λ kind. kind ≡ cell_of name.now inputs (port_of (codes "v") width) operation) }
+    ensures { IfOk result (λ kind.
+        kind ≡ cell_of name.now inputs (port_of (codes "v") width) operation) }
 {
     let drives = one_drive(alloc, "v", operation)?;
     let outputs = one_port(alloc, "v", width)?;
@@ -299,8 +301,10 @@ struct TopSignals {
 
 fn declarations(alloc: Global) -> Result<TopSignals, Memory>
     ensures inputs { IfOk result (λ d. d.inputs ≡ port_of (codes "i") four_bits ∷ []) }
-    ensures outputs { IfOk result (λ d. d.outputs ≡ port_of (codes "o") eight_bits ∷ port_of (codes "p") two_bits ∷ []) }
-    ensures wires { IfOk result (λ d. d.wires ≡ port_of (codes "c") four_bits ∷ port_of (codes "d") four_bits ∷ []) }
+    ensures outputs { IfOk result (λ d.
+        d.outputs ≡ port_of (codes "o") eight_bits ∷ port_of (codes "p") two_bits ∷ []) }
+    ensures wires { IfOk result (λ d.
+        d.wires ≡ port_of (codes "c") four_bits ∷ port_of (codes "d") four_bits ∷ []) }
     ensures registers { IfOk result (λ d. d.registers ≡ port_of (codes "q") four_bits ∷ []) }
 {
     let inputs = one_port(alloc, "i", four_wide())?;

@@ -40,8 +40,11 @@ fn push_kind<'a>(
     kinds: &mut Vec<IndexedKind<'a>>,
     text: &'a ModuleText,
 ) -> Result<(), Memory>
-    ensures kinds { OnOk result (kinds.new.items ≡ kinds.old.items ++ kind_from (said_module text.now) ∷ []) }
-    ensures numbers { OnOk result (numbers.new ≡ (if is_some (lookup (bytes_eq text.now.name) numbers.old) then numbers.old else (numbers.old ++ (text.now.name, length kinds.old.items) ∷ []))) }
+    ensures kinds { OnOk result (kinds.new.items
+        ≡ kinds.old.items ++ kind_from (said_module text.now) ∷ []) }
+    ensures numbers { OnOk result (numbers.new
+        ≡ (if is_some (lookup (bytes_eq text.now.name) numbers.old)
+        then numbers.old else (numbers.old ++ (text.now.name, length kinds.old.items) ∷ []))) }
 {
     numbers.insert(text.name.as_str().as_bytes(), kinds.len())?;
     kinds.push(IndexedKind::new(alloc, text)?)?;

@@ -32,7 +32,8 @@ fn push_declared<'a>(
     names: &mut Vec<&'a str>,
     declarations: &'a [SignalDeclaration],
 ) -> Result<(), Memory>
-    ensures { OnOk result (texts names.new.items ≡ texts names.old.items ++ declared_names (map said_declaration declarations.now)) }
+    ensures { OnOk result (texts names.new.items
+        ≡ texts names.old.items ++ declared_names (map said_declaration declarations.now)) }
 {
     for declaration in declarations {
         names.push(declaration.port().name.as_str())?;
@@ -41,7 +42,8 @@ fn push_declared<'a>(
 }
 
 fn push_wire<'a>(names: &mut Vec<&'a str>, declaration: &'a SignalDeclaration) -> Result<(), Memory>
-    ensures { OnOk result (texts names.new.items ≡ texts names.old.items ++ names_of (wires_of (said_declaration declaration.now ∷ []))) }
+    ensures { OnOk result (texts names.new.items
+        ≡ texts names.old.items ++ names_of (wires_of (said_declaration declaration.now ∷ []))) }
 {
     match declaration {
         SignalDeclaration::Wire(port) => {
@@ -56,7 +58,8 @@ fn push_wires<'a>(
     names: &mut Vec<&'a str>,
     declarations: &'a [SignalDeclaration],
 ) -> Result<(), Memory>
-    ensures { OnOk result (texts names.new.items ≡ texts names.old.items ++ names_of (wires_of (map said_declaration declarations.now))) }
+    ensures { OnOk result (texts names.new.items
+        ≡ texts names.old.items ++ names_of (wires_of (map said_declaration declarations.now))) }
 {
     for declaration in declarations {
         push_wire(names, declaration)?;
@@ -68,7 +71,8 @@ fn push_register<'a>(
     names: &mut Vec<&'a str>,
     declaration: &'a SignalDeclaration,
 ) -> Result<(), Memory>
-    ensures { OnOk result (texts names.new.items ≡ texts names.old.items ++ names_of (registers_in (said_declaration declaration.now ∷ []))) }
+    ensures { OnOk result (texts names.new.items ≡ texts names.old.items
+        ++ names_of (registers_in (said_declaration declaration.now ∷ []))) }
 {
     match declaration {
         SignalDeclaration::Register(port) => {
@@ -83,7 +87,8 @@ fn push_registers<'a>(
     names: &mut Vec<&'a str>,
     declarations: &'a [SignalDeclaration],
 ) -> Result<(), Memory>
-    ensures { OnOk result (texts names.new.items ≡ texts names.old.items ++ names_of (registers_in (map said_declaration declarations.now))) }
+    ensures { OnOk result (texts names.new.items ≡ texts names.old.items
+        ++ names_of (registers_in (map said_declaration declarations.now))) }
 {
     for declaration in declarations {
         push_register(names, declaration)?;
@@ -93,7 +98,8 @@ fn push_registers<'a>(
 
 /// The names that are declared, in the order of the text.
 pub(crate) fn declared<'a>(alloc: Global, text: &'a ModuleText) -> Result<Vec<&'a str>, Memory>
-    ensures { IfOk result (λ names. texts names.items ≡ names_of text.now.inputs ++ names_of text.now.outputs ++ declared_names (map said_declaration text.now.declarations)) }
+    ensures { IfOk result (λ names. texts names.items ≡ names_of text.now.inputs ++ names_of
+        text.now.outputs ++ declared_names (map said_declaration text.now.declarations)) }
 {
     let mut names = Vec::new(alloc);
     push_ports(&mut names, text.inputs.as_slice())?;
@@ -104,7 +110,8 @@ pub(crate) fn declared<'a>(alloc: Global, text: &'a ModuleText) -> Result<Vec<&'
 
 /// The names that are declared as outputs, wires or registers, in the order of the text.
 pub fn drivable<'a>(alloc: Global, text: &'a ModuleText) -> Result<Vec<&'a str>, Memory>
-    ensures { IfOk result (λ names. texts names.items ≡ names_of text.now.outputs ++ declared_names (map said_declaration text.now.declarations)) }
+    ensures { IfOk result (λ names. texts names.items ≡ names_of text.now.outputs
+        ++ declared_names (map said_declaration text.now.declarations)) }
 {
     let mut names = Vec::new(alloc);
     push_ports(&mut names, text.outputs.as_slice())?;
@@ -114,7 +121,8 @@ pub fn drivable<'a>(alloc: Global, text: &'a ModuleText) -> Result<Vec<&'a str>,
 
 /// The ports of a kind, in the order of the text.
 pub fn linkable<'a>(alloc: Global, text: &'a ModuleText) -> Result<Vec<&'a str>, Memory>
-    ensures { IfOk result (λ names. texts names.items ≡ names_of text.now.inputs ++ names_of text.now.outputs) }
+    ensures { IfOk result (λ names.
+        texts names.items ≡ names_of text.now.inputs ++ names_of text.now.outputs) }
 {
     let mut names = Vec::new(alloc);
     push_ports(&mut names, text.inputs.as_slice())?;
@@ -124,7 +132,8 @@ pub fn linkable<'a>(alloc: Global, text: &'a ModuleText) -> Result<Vec<&'a str>,
 
 /// The name that a link to an output port of its kind drives.
 pub(crate) fn driven_by_link<'a>(kind: &IndexedKind, link: &'a PortLink) -> Option<&'a str>
-    ensures { listed (option_map (λ name. name.now) result) ≡ driven_by_link kind.now (said_link link.now) }
+    ensures { listed (option_map (λ name. name.now) result)
+        ≡ driven_by_link kind.now (said_link link.now) }
 {
     match &link.operand {
         Operand::Name(name) if kind.gives(link.port.as_str()) => Some(name.as_str()),
@@ -137,7 +146,8 @@ fn push_linked<'a>(
     kind: &IndexedKind,
     links: &'a [PortLink],
 ) -> Result<(), Memory>
-    ensures { OnOk result (texts names.new.items ≡ texts names.old.items ++ flat_map (driven_by_link kind.now) (map said_link links.now)) }
+    ensures { OnOk result (texts names.new.items
+        ≡ texts names.old.items ++ flat_map (driven_by_link kind.now) (map said_link links.now)) }
 {
     for link in links {
         if let Some(name) = driven_by_link(kind, link) {
@@ -152,7 +162,8 @@ fn push_instance<'a>(
     kinds: &Kinds,
     of: &'a Instantiation,
 ) -> Result<(), Memory>
-    ensures { OnOk result (texts names.new.items ≡ texts names.old.items ++ driven_by kinds.now (instance (said_instance of.now))) }
+    ensures { OnOk result (texts names.new.items
+        ≡ texts names.old.items ++ driven_by kinds.now (instance (said_instance of.now))) }
 {
     match kinds.named(of.kind.as_str()) {
         Some(kind) => push_linked(names, kind, of.links.as_slice()),
@@ -166,7 +177,8 @@ pub fn push_driven<'a>(
     kinds: &Kinds,
     item: &'a Item,
 ) -> Result<(), Memory>
-    ensures { OnOk result (texts names.new.items ≡ texts names.old.items ++ driven_by kinds.now (said_item item.now)) }
+    ensures { OnOk result (texts names.new.items
+        ≡ texts names.old.items ++ driven_by kinds.now (said_item item.now)) }
 {
     match item {
         Item::Drive(drive) | Item::Widening(_, drive) => {
@@ -183,7 +195,8 @@ pub fn push_driven<'a>(
 
 /// The names that are driven, in the order of the text.
 pub fn driven<'a>(alloc: Global, kinds: &Kinds, items: &'a [Item]) -> Result<Vec<&'a str>, Memory>
-    ensures { IfOk result (λ names. texts names.items ≡ driven_names kinds.now (map said_item items.now)) }
+    ensures { IfOk result (λ names.
+        texts names.items ≡ driven_names kinds.now (map said_item items.now)) }
 {
     let mut names = Vec::new(alloc);
     for item in items {
@@ -210,7 +223,8 @@ pub fn inputs<'a>(alloc: Global, text: &'a ModuleText) -> Result<NameSet<'a>, Me
 
 /// The names that an `assign` may drive.
 pub fn wires<'a>(alloc: Global, text: &'a ModuleText) -> Result<NameSet<'a>, Memory>
-    ensures { IfOk result (λ set. (q : Bytes) → is_in set q ≡ is_in (wire_names (module_of (said_module text.now))) q) }
+    ensures { IfOk result (λ set. (q : Bytes)
+        → is_in set q ≡ is_in (wire_names (module_of (said_module text.now))) q) }
 {
     let mut names = Vec::new(alloc);
     push_ports(&mut names, text.outputs.as_slice())?;
@@ -220,7 +234,8 @@ pub fn wires<'a>(alloc: Global, text: &'a ModuleText) -> Result<NameSet<'a>, Mem
 
 /// The names that an `always` may drive.
 pub fn registers<'a>(alloc: Global, text: &'a ModuleText) -> Result<NameSet<'a>, Memory>
-    ensures { IfOk result (λ set. (q : Bytes) → is_in set q ≡ is_in (names_of (module_of (said_module text.now)).registers) q) }
+    ensures { IfOk result (λ set. (q : Bytes)
+        → is_in set q ≡ is_in (names_of (module_of (said_module text.now)).registers) q) }
 {
     let mut names = Vec::new(alloc);
     push_registers(&mut names, text.declarations.as_slice())?;
@@ -229,7 +244,8 @@ pub fn registers<'a>(alloc: Global, text: &'a ModuleText) -> Result<NameSet<'a>,
 
 /// The names that an operand may be.
 pub fn readable<'a>(alloc: Global, text: &'a ModuleText) -> Result<NameSet<'a>, Memory>
-    ensures { IfOk result (λ set. (q : Bytes) → is_in set q ≡ is_in (all_names (module_of (said_module text.now))) q) }
+    ensures { IfOk result (λ set. (q : Bytes)
+        → is_in set q ≡ is_in (all_names (module_of (said_module text.now))) q) }
 {
     let mut names = Vec::new(alloc);
     push_ports(&mut names, text.inputs.as_slice())?;
@@ -240,7 +256,8 @@ pub fn readable<'a>(alloc: Global, text: &'a ModuleText) -> Result<NameSet<'a>, 
 }
 
 fn insert_ports<'a>(widths: &mut Widths<'a>, ports: &'a [Port]) -> Result<(), Memory>
-    ensures { OnOk result ((q : Bytes) → width_found widths.new q ≡ width_found (widths.old ++ ports.now) q) }
+    ensures { OnOk result ((q : Bytes)
+        → width_found widths.new q ≡ width_found (widths.old ++ ports.now) q) }
 {
     for port in ports {
         widths.insert(port)?;
@@ -252,7 +269,8 @@ fn insert_register<'a>(
     widths: &mut Widths<'a>,
     declaration: &'a SignalDeclaration,
 ) -> Result<(), Memory>
-    ensures { OnOk result ((q : Bytes) → width_found widths.new q ≡ width_found (widths.old ++ registers_in (said_declaration declaration.now ∷ [])) q) }
+    ensures { OnOk result ((q : Bytes) → width_found widths.new q
+        ≡ width_found (widths.old ++ registers_in (said_declaration declaration.now ∷ [])) q) }
 {
     match declaration {
         SignalDeclaration::Register(port) => widths.insert(port),
@@ -264,7 +282,8 @@ fn insert_registers<'a>(
     widths: &mut Widths<'a>,
     declarations: &'a [SignalDeclaration],
 ) -> Result<(), Memory>
-    ensures { OnOk result ((q : Bytes) → width_found widths.new q ≡ width_found (widths.old ++ registers_in (map said_declaration declarations.now)) q) }
+    ensures { OnOk result ((q : Bytes) → width_found widths.new q
+        ≡ width_found (widths.old ++ registers_in (map said_declaration declarations.now)) q) }
 {
     for declaration in declarations {
         insert_register(widths, declaration)?;
@@ -276,7 +295,8 @@ fn insert_wire<'a>(
     widths: &mut Widths<'a>,
     declaration: &'a SignalDeclaration,
 ) -> Result<(), Memory>
-    ensures { OnOk result ((q : Bytes) → width_found widths.new q ≡ width_found (widths.old ++ wires_of (said_declaration declaration.now ∷ [])) q) }
+    ensures { OnOk result ((q : Bytes) → width_found widths.new q
+        ≡ width_found (widths.old ++ wires_of (said_declaration declaration.now ∷ [])) q) }
 {
     match declaration {
         SignalDeclaration::Wire(port) => widths.insert(port),
@@ -288,7 +308,8 @@ fn insert_wires<'a>(
     widths: &mut Widths<'a>,
     declarations: &'a [SignalDeclaration],
 ) -> Result<(), Memory>
-    ensures { OnOk result ((q : Bytes) → width_found widths.new q ≡ width_found (widths.old ++ wires_of (map said_declaration declarations.now)) q) }
+    ensures { OnOk result ((q : Bytes) → width_found widths.new q
+        ≡ width_found (widths.old ++ wires_of (map said_declaration declarations.now)) q) }
 {
     for declaration in declarations {
         insert_wire(widths, declaration)?;
@@ -299,7 +320,8 @@ fn insert_wires<'a>(
 // Puts the ports of a kind among no other names.
 fn insert_kind<'a>(widths: &mut Widths<'a>, kind: &'a ModuleText) -> Result<(), Memory>
     requires { widths.old ≡ [] }
-    ensures { OnOk result ((q : Bytes) → width_in widths.new q ≡ width_in (kind.now.inputs ++ kind.now.outputs) q) }
+    ensures { OnOk result ((q : Bytes)
+        → width_in widths.new q ≡ width_in (kind.now.inputs ++ kind.now.outputs) q) }
 {
     insert_ports(widths, kind.inputs.as_slice())?;
     insert_ports(widths, kind.outputs.as_slice())
@@ -307,7 +329,8 @@ fn insert_kind<'a>(widths: &mut Widths<'a>, kind: &'a ModuleText) -> Result<(), 
 
 /// The widths of the ports of a kind.
 pub(crate) fn port_widths<'a>(alloc: Global, kind: &'a ModuleText) -> Result<Widths<'a>, Memory>
-    ensures { IfOk result (λ widths. (q : Bytes) → width_in widths q ≡ width_in (kind.now.inputs ++ kind.now.outputs) q) }
+    ensures { IfOk result (λ widths. (q : Bytes)
+        → width_in widths q ≡ width_in (kind.now.inputs ++ kind.now.outputs) q) }
 {
     let mut widths = Widths::new(alloc);
     insert_kind(&mut widths, kind)?;
@@ -317,7 +340,8 @@ pub(crate) fn port_widths<'a>(alloc: Global, kind: &'a ModuleText) -> Result<Wid
 // Puts all names of a text among no others.
 fn insert_all<'a>(widths: &mut Widths<'a>, text: &'a ModuleText) -> Result<(), Memory>
     requires { widths.old ≡ [] }
-    ensures { OnOk result ((q : Bytes) → width_in widths.new q ≡ width_of (module_of (said_module text.now)) q) }
+    ensures { OnOk result ((q : Bytes)
+        → width_in widths.new q ≡ width_of (module_of (said_module text.now)) q) }
 {
     insert_ports(widths, text.inputs.as_slice())?;
     insert_registers(widths, text.declarations.as_slice())?;
@@ -327,7 +351,8 @@ fn insert_all<'a>(widths: &mut Widths<'a>, text: &'a ModuleText) -> Result<(), M
 
 /// The widths of all names.
 pub fn widths<'a>(alloc: Global, text: &'a ModuleText) -> Result<Widths<'a>, Memory>
-    ensures { IfOk result (λ widths. (q : Bytes) → width_in widths q ≡ width_of (module_of (said_module text.now)) q) }
+    ensures { IfOk result (λ widths. (q : Bytes)
+        → width_in widths q ≡ width_of (module_of (said_module text.now)) q) }
 {
     let mut widths = Widths::new(alloc);
     insert_all(&mut widths, text)?;

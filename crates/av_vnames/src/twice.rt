@@ -23,7 +23,8 @@ use std::alloc::Global;
 
 // Puts a name among others. The name, if it was there.
 fn put<'a>(names: &mut NameSet<'a>, name: &'a str) -> Result<Option<&'a str>, Memory>
-    ensures { IfOk result (λ r. IsPut names.old names.new name.now (option_map (λ name. name.now) r)) }
+    ensures { IfOk result (λ r.
+        IsPut names.old names.new name.now (option_map (λ name. name.now) r)) }
 {
     if names.insert(name.as_bytes())? {
         Ok(None)
@@ -34,7 +35,8 @@ fn put<'a>(names: &mut NameSet<'a>, name: &'a str) -> Result<Option<&'a str>, Me
 
 // The name that a link drives, unless there is no such kind.
 fn driven<'a>(kind: Option<&IndexedKind>, link: &'a PortLink) -> Option<&'a str>
-    ensures { listed (option_map (λ name. name.now) result) ≡ driven_by_link (kind_or (option_map (λ kind. kind.now) kind.entry)) (said_link link.now) }
+    ensures { listed (option_map (λ name. name.now) result)
+        ≡ driven_by_link (kind_or (option_map (λ kind. kind.now) kind.entry)) (said_link link.now) }
 {
     match kind {
         Some(kind) => scope::driven_by_link(kind, link),
@@ -65,21 +67,24 @@ impl<'a> Seen<'a> {
 
     // The name, if it was declared before.
     fn declares(&mut self, name: &'a str) -> Result<Option<&'a str>, Memory>
-        ensures { IfOk result (λ r. Tells Stands self.old self.new (declares name.now ∷ []) (option_map (λ name. name.now) r)) }
+        ensures { IfOk result (λ r. Tells Stands self.old self.new
+            (declares name.now ∷ []) (option_map (λ name. name.now) r)) }
     {
         put(&mut self.declared, name)
     }
 
     // The name, if it was driven before.
     fn drives(&mut self, name: &'a str) -> Result<Option<&'a str>, Memory>
-        ensures { IfOk result (λ r. Tells Stands self.old self.new (drives name.now ∷ []) (option_map (λ name. name.now) r)) }
+        ensures { IfOk result (λ r. Tells Stands self.old self.new
+            (drives name.now ∷ []) (option_map (λ name. name.now) r)) }
     {
         put(&mut self.driven, name)
     }
 
     // The first of these names that was declared before, or that stands among them again.
     fn declares_all(&mut self, names: &[&'a str]) -> Result<Option<&'a str>, Memory>
-        ensures { IfOk result (λ r. Tells Stands self.old self.new (map declares (texts names.now)) (option_map (λ name. name.now) r)) }
+        ensures { IfOk result (λ r. Tells Stands self.old self.new
+            (map declares (texts names.now)) (option_map (λ name. name.now) r)) }
     {
         for name in names {
             if let Some(name) = self.declares(name)? {
@@ -96,7 +101,12 @@ impl<'a> Seen<'a> {
         kind: Option<&IndexedKind>,
         link: &'a PortLink,
     ) -> Result<Option<&'a str>, Memory>
-        ensures { IfOk result (λ r. (u : Bytes) → Tells (StandsIn u) (self.old, linked.old) (self.new, linked.new) (link_mentions (kind_or (option_map (λ kind. kind.now) kind.entry)) u (said_link link.now)) (option_map (λ name. name.now) r)) }
+        ensures { IfOk result (λ r. (u : Bytes)
+            → Tells (StandsIn u) (self.old, linked.old) (
+              self.new,
+              linked.new,
+            ) (link_mentions (kind_or (option_map (λ kind. kind.now) kind.entry)) u
+            (said_link link.now)) (option_map (λ name. name.now) r)) }
     {
         if let Some(port) = put(linked, link.port.as_str())? {
             return Ok(Some(port));
@@ -114,7 +124,10 @@ impl<'a> Seen<'a> {
         kind: Option<&IndexedKind>,
         links: &'a [PortLink],
     ) -> Result<Option<&'a str>, Memory>
-        ensures { IfOk result (λ r. (u : Bytes) → Tells (StandsIn u) (self.old, linked.old) (self.new, linked.new) (flat_map (link_mentions (kind_or (option_map (λ kind. kind.now) kind.entry)) u) (map said_link links.now)) (option_map (λ name. name.now) r)) }
+        ensures { IfOk result (λ r. (u : Bytes)
+            → Tells (StandsIn u) (self.old, linked.old) (self.new, linked.new) (flat_map
+            (link_mentions (kind_or (option_map (λ kind. kind.now) kind.entry)) u)
+            (map said_link links.now)) (option_map (λ name. name.now) r)) }
     {
         for link in links {
             if let Some(name) = self.links(linked, kind, link)? {
@@ -131,7 +144,8 @@ impl<'a> Seen<'a> {
         kinds: &Kinds,
         of: &'a Instantiation,
     ) -> Result<Option<&'a str>, Memory>
-        ensures { IfOk result (λ r. Tells Stands self.old self.new (item_mentions kinds.now (instance (said_instance of.now))) (option_map (λ name. name.now) r)) }
+        ensures { IfOk result (λ r. Tells Stands self.old self.new (item_mentions kinds.now
+            (instance (said_instance of.now))) (option_map (λ name. name.now) r)) }
     {
         if let Some(name) = self.declares(of.name.as_str())? {
             return Ok(Some(name));
@@ -148,7 +162,8 @@ impl<'a> Seen<'a> {
         kinds: &Kinds,
         item: &'a Item,
     ) -> Result<Option<&'a str>, Memory>
-        ensures { IfOk result (λ r. Tells Stands self.old self.new (item_mentions kinds.now (said_item item.now)) (option_map (λ name. name.now) r)) }
+        ensures { IfOk result (λ r. Tells Stands self.old self.new
+            (item_mentions kinds.now (said_item item.now)) (option_map (λ name. name.now) r)) }
     {
         match item {
             Item::Drive(drive) | Item::Widening(_, drive) => self.drives(drive.target.as_str()),
@@ -164,7 +179,9 @@ impl<'a> Seen<'a> {
         kinds: &Kinds,
         items: &'a [Item],
     ) -> Result<Option<&'a str>, Memory>
-        ensures { IfOk result (λ r. Tells Stands self.old self.new (flat_map (item_mentions kinds.now) (map said_item items.now)) (option_map (λ name. name.now) r)) }
+        ensures { IfOk result (λ r. Tells Stands self.old self.new
+            (flat_map (item_mentions kinds.now) (map said_item items.now))
+            (option_map (λ name. name.now) r)) }
     {
         for item in items {
             if let Some(name) = self.item(alloc, kinds, item)? {
@@ -176,7 +193,8 @@ impl<'a> Seen<'a> {
 
     // The first name that a module declares again.
     fn declarations(&mut self, alloc: Global, of: &'a ModuleText) -> Result<Option<&'a str>, Memory>
-        ensures { IfOk result (λ r. Tells Stands self.old self.new (map declares (own_declared (said_module of.now))) (option_map (λ name. name.now) r)) }
+        ensures { IfOk result (λ r. Tells Stands self.old self.new
+            (map declares (own_declared (said_module of.now))) (option_map (λ name. name.now) r)) }
     {
         let names = scope::declared(alloc, of)?;
         self.declares_all(names.as_slice())
@@ -189,7 +207,8 @@ impl<'a> Seen<'a> {
         kinds: &Kinds,
         of: &'a ModuleText,
     ) -> Result<Option<&'a str>, Memory>
-        ensures { IfOk result (λ r. Tells Stands self.old self.new (own_mentions kinds.now (said_module of.now)) (option_map (λ name. name.now) r)) }
+        ensures { IfOk result (λ r. Tells Stands self.old self.new
+            (own_mentions kinds.now (said_module of.now)) (option_map (λ name. name.now) r)) }
     {
         if let Some(name) = self.declarations(alloc, of)? {
             return Ok(Some(name));
@@ -206,7 +225,8 @@ fn twice_in<'a>(
     modules: &mut NameSet<'a>,
     of: &'a ModuleText,
 ) -> Result<Option<&'a str>, Memory>
-    ensures again { IfOk result (λ r. option_map (λ name. name.now) r ≡ first_again (standing modules.old) (mentions_of kinds.now (said_module of.now))) }
+    ensures again { IfOk result (λ r. option_map (λ name. name.now) r
+        ≡ first_again (standing modules.old) (mentions_of kinds.now (said_module of.now))) }
     ensures modules { IfOk result (λ r. r ≡ None → modules.new ≡ modules.old ++ of.now.name ∷ []) }
 {
     if let Some(name) = put(modules, of.name.as_str())? {
@@ -224,7 +244,8 @@ fn twice_among<'a>(
     text: &'a Text,
 ) -> Result<Option<&'a str>, Memory>
     requires { kinds.now ≡ kinds_of (said text.now) }
-    ensures { IfOk result (λ r. option_map (λ name. name.now) r ≡ twice_from (kinds_of (said text.now)) modules.old (modules_of (said text.now))) }
+    ensures { IfOk result (λ r. option_map (λ name. name.now) r
+        ≡ twice_from (kinds_of (said text.now)) modules.old (modules_of (said text.now))) }
 {
     for kind in text.kinds.as_slice() {
         if let Some(name) = twice_in(alloc, kinds, modules, kind)? {
@@ -241,7 +262,8 @@ pub fn twice_name<'a>(
     text: &'a Text,
 ) -> Result<Option<&'a str>, Memory>
     requires { kinds.now ≡ kinds_of (said text.now) }
-    ensures { IfOk result (λ r. option_map (λ name. name.now) r ≡ twice_from (kinds_of (said text.now)) [] (modules_of (said text.now))) }
+    ensures { IfOk result (λ r. option_map (λ name. name.now) r
+        ≡ twice_from (kinds_of (said text.now)) [] (modules_of (said text.now))) }
 {
     let mut modules = NameSet::new(alloc);
     twice_among(alloc, kinds, &mut modules, text)
@@ -249,7 +271,8 @@ pub fn twice_name<'a>(
 
 // Appends what the top declares besides to other names: `clk`, `rst` and its instances.
 fn push_top<'a>(names: &mut Vec<&'a str>, items: &'a [Item]) -> Result<(), Memory>
-    ensures { OnOk result (texts names.new.items ≡ texts names.old.items ++ clk ∷ rst ∷ instances_named (map said_item items.now)) }
+    ensures { OnOk result (texts names.new.items
+        ≡ texts names.old.items ++ clk ∷ rst ∷ instances_named (map said_item items.now)) }
 {
     names.push("clk")?;
     names.push("rst")?;
@@ -263,7 +286,8 @@ fn push_top<'a>(names: &mut Vec<&'a str>, items: &'a [Item]) -> Result<(), Memor
 
 // The names that the top declares.
 fn top_names<'a>(alloc: Global, top: &'a ModuleText) -> Result<NameSet<'a>, Memory>
-    ensures { IfOk result (λ set. (q : Bytes) → is_in set q ≡ is_in (own_names (said_module top.now)) q) }
+    ensures { IfOk result (λ set. (q : Bytes)
+        → is_in set q ≡ is_in (own_names (said_module top.now)) q) }
 {
     let mut names = scope::declared(alloc, top)?;
     push_top(&mut names, top.items.as_slice())?;
@@ -272,7 +296,8 @@ fn top_names<'a>(alloc: Global, top: &'a ModuleText) -> Result<NameSet<'a>, Memo
 
 // The first name of these flat wires that is among others or stands there before.
 fn repeated<'a>(seen: &mut NameSet<'a>, parts: &'a [Port]) -> Result<Option<&'a str>, Memory>
-    ensures { IfOk result (λ r. option_map (λ name. name.now) r ≡ first_repeated seen.old (names_of parts.now)) }
+    ensures { IfOk result (λ r.
+        option_map (λ name. name.now) r ≡ first_repeated seen.old (names_of parts.now)) }
 {
     for part in parts {
         if !seen.insert(part.name.as_str().as_bytes())? {
@@ -288,7 +313,8 @@ pub fn part_twice<'a>(
     text: &'a Text,
     parts: &'a [Port],
 ) -> Result<Option<&'a str>, Memory>
-    requires { parts.now ≡ flat_map (instance_wires (kinds_of (said text.now))) (instances_in (kinds_of (said text.now)) (said text.now).top.items) }
+    requires { parts.now ≡ flat_map (instance_wires (kinds_of (said text.now)))
+        (instances_in (kinds_of (said text.now)) (said text.now).top.items) }
     ensures { IfOk result (λ r. option_map (λ name. name.now) r ≡ part_twice (said text.now)) }
 {
     let mut seen = top_names(alloc, &text.top)?;

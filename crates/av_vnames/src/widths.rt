@@ -22,7 +22,8 @@ impl<'a> Model for Widths<'a> {
 
     ghost Value = { Items Declared };
 
-    ghost view = { λ widths. map (λ entry. record { name = entry.0; width = entry.1 }) widths.table };
+    ghost view = { λ widths.
+        map (λ entry. record { name = entry.0; width = entry.1 }) widths.table };
 }
 
 impl<'a> Widths<'a> {
@@ -37,7 +38,8 @@ impl<'a> Widths<'a> {
 
     /// Puts a port among the others, if its name is new.
     pub fn insert(&mut self, port: &'a Port) -> Result<(), Memory>
-        ensures { OnOk result (self.new ≡ (if is_in (names_of self.old) port.now.name then self.old else self.old ++ port.now ∷ [])) }
+        ensures { OnOk result (self.new ≡ (if is_in (names_of self.old) port.now.name
+            then self.old else self.old ++ port.now ∷ [])) }
     {
         self.table
             .insert(port.name.as_str().as_bytes(), port.width)?;

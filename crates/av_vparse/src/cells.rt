@@ -33,7 +33,8 @@ impl<'t, 'a> DesignCursor<'t, 'a> {
     // A port of a kind, with the comma behind it.
     #[tactic(auto, unfolding(crate::specs::inner::Reading::kind_input_at))]
     fn kind_input(&mut self) -> Result<Port, ReadError>
-        ensures { Gives (λ x. (x, views self.new.rest.now)) result (kind_input_at (views self.old.rest.now)) }
+        ensures { Gives (λ x. (x, views self.new.rest.now)) result
+            (kind_input_at (views self.old.rest.now)) }
     {
         self.word("input")?;
         let port = self.port()?;
@@ -42,7 +43,8 @@ impl<'t, 'a> DesignCursor<'t, 'a> {
     }
 
     fn kind_inputs(&mut self) -> Result<List<Port>, ReadError>
-        ensures { Gives (λ x. (x, views self.new.rest.now)) result (kind_inputs_at (views self.old.rest.now)) }
+        ensures { Gives (λ x. (x, views self.new.rest.now)) result
+            (kind_inputs_at (views self.old.rest.now)) }
     {
         let mut found = List::new(self.alloc);
         while self.is_at("input") {
@@ -54,7 +56,8 @@ impl<'t, 'a> DesignCursor<'t, 'a> {
 
     // One output and more behind commas.
     fn kind_outputs(&mut self) -> Result<List<Port>, ReadError>
-        ensures { Gives (λ x. (x, views self.new.rest.now)) result (kind_outputs_at (views self.old.rest.now)) }
+        ensures { Gives (λ x. (x, views self.new.rest.now)) result
+            (kind_outputs_at (views self.old.rest.now)) }
     {
         self.word("output")?;
         let first = self.port()?;
@@ -62,7 +65,8 @@ impl<'t, 'a> DesignCursor<'t, 'a> {
     }
 
     fn outputs_from(&mut self, first: Port) -> Result<List<Port>, ReadError>
-        ensures { Gives (λ x. (x, views self.new.rest.now)) result (outputs_from first (views self.old.rest.now)) }
+        ensures { Gives (λ x. (x, views self.new.rest.now)) result
+            (outputs_from first (views self.old.rest.now)) }
     {
         let mut found = List::new(self.alloc);
         found.push(first)?;
@@ -75,7 +79,8 @@ impl<'t, 'a> DesignCursor<'t, 'a> {
 
     // The ports of a kind with this name, and what ends them.
     fn kind_ports(&mut self, name: Name) -> Result<Header, ReadError>
-        ensures { Gives (λ x. (said_header x, views self.new.rest.now)) result (kind_ports_at name (views self.old.rest.now)) }
+        ensures { Gives (λ x. (said_header x, views self.new.rest.now)) result
+            (kind_ports_at name (views self.old.rest.now)) }
     {
         let inputs = self.kind_inputs()?;
         let outputs = self.kind_outputs()?;
@@ -89,7 +94,8 @@ impl<'t, 'a> DesignCursor<'t, 'a> {
 
     #[tactic(auto, unfolding(crate::specs::inner::Reading::kind_header_at))]
     fn kind_header(&mut self) -> Result<Header, ReadError>
-        ensures { Gives (λ x. (said_header x, views self.new.rest.now)) result (kind_header_at (views self.old.rest.now)) }
+        ensures { Gives (λ x. (said_header x, views self.new.rest.now)) result
+            (kind_header_at (views self.old.rest.now)) }
     {
         self.word("module")?;
         let name = self.name()?;
@@ -99,7 +105,8 @@ impl<'t, 'a> DesignCursor<'t, 'a> {
 
     #[tactic(auto, unfolding(crate::specs::inner::Reading::kind_wire_at))]
     fn kind_wire(&mut self) -> Result<SignalDeclaration, ReadError>
-        ensures { Gives (λ x. (said_declaration x, views self.new.rest.now)) result (kind_wire_at (views self.old.rest.now)) }
+        ensures { Gives (λ x. (said_declaration x, views self.new.rest.now)) result
+            (kind_wire_at (views self.old.rest.now)) }
     {
         self.word("wire")?;
         let port = self.declared()?;
@@ -107,7 +114,8 @@ impl<'t, 'a> DesignCursor<'t, 'a> {
     }
 
     fn kind_wires(&mut self) -> Result<List<SignalDeclaration>, ReadError>
-        ensures { Gives (λ x. (map said_declaration x, views self.new.rest.now)) result (kind_wires_at (views self.old.rest.now)) }
+        ensures { Gives (λ x. (map said_declaration x, views self.new.rest.now)) result
+            (kind_wires_at (views self.old.rest.now)) }
     {
         let mut found = List::new(self.alloc);
         while self.is_at("wire") {
@@ -119,7 +127,8 @@ impl<'t, 'a> DesignCursor<'t, 'a> {
 
     // What follows the header.
     fn kind_body(&mut self, header: Header) -> Result<ModuleText, ReadError>
-        ensures { Gives (λ x. (said_module x, views self.new.rest.now)) result (kind_body_at (said_header header) (views self.old.rest.now)) }
+        ensures { Gives (λ x. (said_module x, views self.new.rest.now)) result
+            (kind_body_at (said_header header) (views self.old.rest.now)) }
     {
         let declarations = self.kind_wires()?;
         let items = self.assignments()?;
@@ -129,7 +138,8 @@ impl<'t, 'a> DesignCursor<'t, 'a> {
 
     #[tactic(auto, unfolding(crate::specs::inner::Reading::kind_at))]
     fn kind(&mut self) -> Result<ModuleText, ReadError>
-        ensures { Gives (λ x. (said_module x, views self.new.rest.now)) result (kind_at (views self.old.rest.now)) }
+        ensures { Gives (λ x. (said_module x, views self.new.rest.now)) result
+            (kind_at (views self.old.rest.now)) }
     {
         let header = self.kind_header()?;
         self.kind_body(header)
@@ -137,7 +147,8 @@ impl<'t, 'a> DesignCursor<'t, 'a> {
 
     /// Kinds of cells, as many as stand before the top.
     pub(crate) fn kinds(&mut self) -> Result<List<ModuleText>, ReadError>
-        ensures { Gives (λ x. (map said_module x, views self.new.rest.now)) result (kinds_at (views self.old.rest.now)) }
+        ensures { Gives (λ x. (map said_module x, views self.new.rest.now)) result
+            (kinds_at (views self.old.rest.now)) }
     {
         let mut found = List::new(self.alloc);
         while self.begins_kind() {

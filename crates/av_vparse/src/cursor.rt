@@ -84,7 +84,8 @@ impl<'t, 'a> DesignCursor<'t, 'a> {
     /// This token, which is no name.
     #[tactic(auto, unfolding(crate::specs::inner::Reading::word_at))]
     pub(crate) fn word(&mut self, text: &str) -> Result<(), ReadError>
-        ensures { Gives (λ _. views self.new.rest.now) result (word_at text.now (views self.old.rest.now)) }
+        ensures { Gives (λ _. views self.new.rest.now) result
+            (word_at text.now (views self.old.rest.now)) }
     {
         match self.rest {
             [first, rest @ ..] if is_word(first, text) => {
@@ -97,7 +98,8 @@ impl<'t, 'a> DesignCursor<'t, 'a> {
 
     /// These two tokens, which are no names.
     pub(crate) fn pair(&mut self, first: &str, second: &str) -> Result<(), ReadError>
-        ensures { Gives (λ _. views self.new.rest.now) result (words_at (first.now ∷ second.now ∷ []) (views self.old.rest.now)) }
+        ensures { Gives (λ _. views self.new.rest.now) result
+            (words_at (first.now ∷ second.now ∷ []) (views self.old.rest.now)) }
     {
         self.word(first)?;
         self.word(second)
@@ -106,7 +108,8 @@ impl<'t, 'a> DesignCursor<'t, 'a> {
     /// A name.
     #[tactic(auto, unfolding(crate::specs::inner::Reading::name_at))]
     pub(crate) fn name(&mut self) -> Result<Name, ReadError>
-        ensures { Gives (λ x. (x, views self.new.rest.now)) result (name_at (views self.old.rest.now)) }
+        ensures { Gives (λ x. (x, views self.new.rest.now)) result
+            (name_at (views self.old.rest.now)) }
     {
         match self.rest {
             [first, rest @ ..] if first.kind == DesignTokenKind::Name => {
@@ -120,7 +123,8 @@ impl<'t, 'a> DesignCursor<'t, 'a> {
     /// This very name.
     #[tactic(auto, unfolding(crate::specs::inner::Reading::this_name_at))]
     pub(crate) fn this_name(&mut self, name: &str) -> Result<(), ReadError>
-        ensures { Gives (λ _. views self.new.rest.now) result (this_name_at name.now (views self.old.rest.now)) }
+        ensures { Gives (λ _. views self.new.rest.now) result
+            (this_name_at name.now (views self.old.rest.now)) }
     {
         match self.rest {
             [first, rest @ ..] if first.kind == DesignTokenKind::Name && first.text == name => {
@@ -135,7 +139,8 @@ impl<'t, 'a> DesignCursor<'t, 'a> {
     #[tactic(auto, unfolding(crate::specs::inner::Reading::number_at))]
     pub(crate) fn number(&mut self, least: u64, most: u64) -> Result<u64, ReadError>
         ensures within { IfOk result (λ x. (least ≤ x) × (x ≤ most)) }
-        ensures gives { Gives (λ x. (x, views self.new.rest.now)) result (number_at least most (views self.old.rest.now)) }
+        ensures gives { Gives (λ x. (x, views self.new.rest.now)) result
+            (number_at least most (views self.old.rest.now)) }
     {
         match self.rest {
             [first, rest @ ..] if first.kind == DesignTokenKind::Number => {
@@ -154,7 +159,8 @@ impl<'t, 'a> DesignCursor<'t, 'a> {
     /// A literal.
     #[tactic(auto, unfolding(crate::specs::inner::Reading::literal_at, crate::specs::inner::Reading::literal_by))]
     pub(crate) fn literal(&mut self) -> Result<Literal, ReadError>
-        ensures { Gives (λ x. (sized_view x, views self.new.rest.now)) result (literal_at (views self.old.rest.now)) }
+        ensures { Gives (λ x. (sized_view x, views self.new.rest.now)) result
+            (literal_at (views self.old.rest.now)) }
     {
         match self.rest {
             [first, rest @ ..] if first.kind == DesignTokenKind::Literal => {

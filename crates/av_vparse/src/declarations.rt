@@ -24,7 +24,8 @@ fn width_above(number: u64) -> Width
 impl<'t, 'a> DesignCursor<'t, 'a> {
     #[tactic(auto, unfolding(crate::specs::inner::Reading::range_at))]
     fn range(&mut self) -> Result<Width, ReadError>
-        ensures { Gives (λ x. (x, views self.new.rest.now)) result (range_at (views self.old.rest.now)) }
+        ensures { Gives (λ x. (x, views self.new.rest.now)) result
+            (range_at (views self.old.rest.now)) }
     {
         if !self.is_at("[") {
             return Ok(width_above(0));
@@ -40,7 +41,8 @@ impl<'t, 'a> DesignCursor<'t, 'a> {
     /// A range and a name.
     #[tactic(auto, unfolding(crate::specs::inner::Reading::port_at))]
     pub(crate) fn port(&mut self) -> Result<Port, ReadError>
-        ensures { Gives (λ x. (x, views self.new.rest.now)) result (port_at (views self.old.rest.now)) }
+        ensures { Gives (λ x. (x, views self.new.rest.now)) result
+            (port_at (views self.old.rest.now)) }
     {
         let width = self.range()?;
         let name = self.name()?;
@@ -50,7 +52,8 @@ impl<'t, 'a> DesignCursor<'t, 'a> {
     /// A port of a direction, with the comma before it.
     #[tactic(auto, unfolding(crate::specs::inner::Reading::directed_at))]
     pub(crate) fn directed(&mut self, direction: &str) -> Result<Port, ReadError>
-        ensures { Gives (λ x. (x, views self.new.rest.now)) result (directed_at direction.now (views self.old.rest.now)) }
+        ensures { Gives (λ x. (x, views self.new.rest.now)) result
+            (directed_at direction.now (views self.old.rest.now)) }
     {
         self.pair(",", direction)?;
         self.port()
@@ -58,7 +61,8 @@ impl<'t, 'a> DesignCursor<'t, 'a> {
 
     /// Ports of a direction, as many as stand there.
     pub(crate) fn ports(&mut self, direction: &str) -> Result<List<Port>, ReadError>
-        ensures { Gives (λ x. (x, views self.new.rest.now)) result (ports_at direction.now (views self.old.rest.now)) }
+        ensures { Gives (λ x. (x, views self.new.rest.now)) result
+            (ports_at direction.now (views self.old.rest.now)) }
     {
         let mut found = List::new(self.alloc);
         while self.are_at(",", direction) {
@@ -71,7 +75,8 @@ impl<'t, 'a> DesignCursor<'t, 'a> {
     /// A range, a name and what ends a declaration.
     #[tactic(auto, unfolding(crate::specs::inner::Reading::declared_at))]
     pub(crate) fn declared(&mut self) -> Result<Port, ReadError>
-        ensures { Gives (λ x. (x, views self.new.rest.now)) result (declared_at (views self.old.rest.now)) }
+        ensures { Gives (λ x. (x, views self.new.rest.now)) result
+            (declared_at (views self.old.rest.now)) }
     {
         let port = self.port()?;
         self.word(";")?;
@@ -86,7 +91,8 @@ impl<'t, 'a> DesignCursor<'t, 'a> {
 
     #[tactic(auto, unfolding(crate::specs::inner::Reading::declaration_at))]
     fn declaration(&mut self) -> Result<SignalDeclaration, ReadError>
-        ensures { Gives (λ x. (said_declaration x, views self.new.rest.now)) result (declaration_at (views self.old.rest.now)) }
+        ensures { Gives (λ x. (said_declaration x, views self.new.rest.now)) result
+            (declaration_at (views self.old.rest.now)) }
     {
         if self.is_at("wire") {
             self.skip();
@@ -100,7 +106,8 @@ impl<'t, 'a> DesignCursor<'t, 'a> {
 
     /// Declarations, as many as stand there.
     pub(crate) fn declarations(&mut self) -> Result<List<SignalDeclaration>, ReadError>
-        ensures { Gives (λ x. (map said_declaration x, views self.new.rest.now)) result (declarations_at (views self.old.rest.now)) }
+        ensures { Gives (λ x. (map said_declaration x, views self.new.rest.now)) result
+            (declarations_at (views self.old.rest.now)) }
     {
         let mut found = List::new(self.alloc);
         while self.begins_declaration() {

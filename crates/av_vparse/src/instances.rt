@@ -14,7 +14,8 @@ impl<'t, 'a> DesignCursor<'t, 'a> {
     // `.port(operand)`
     #[tactic(auto, unfolding(crate::specs::inner::Reading::link_at))]
     fn link(&mut self) -> Result<PortLink, ReadError>
-        ensures { Gives (λ x. (said_link x, views self.new.rest.now)) result (link_at (views self.old.rest.now)) }
+        ensures { Gives (λ x. (said_link x, views self.new.rest.now)) result
+            (link_at (views self.old.rest.now)) }
     {
         self.word(".")?;
         let port = self.name()?;
@@ -26,7 +27,8 @@ impl<'t, 'a> DesignCursor<'t, 'a> {
 
     #[tactic(auto, unfolding(crate::specs::inner::Reading::next_link_at))]
     fn next_link(&mut self) -> Result<PortLink, ReadError>
-        ensures { Gives (λ x. (said_link x, views self.new.rest.now)) result (next_link_at (views self.old.rest.now)) }
+        ensures { Gives (λ x. (said_link x, views self.new.rest.now)) result
+            (next_link_at (views self.old.rest.now)) }
     {
         self.word(",")?;
         self.link()
@@ -34,14 +36,16 @@ impl<'t, 'a> DesignCursor<'t, 'a> {
 
     // One link and more behind commas.
     fn links(&mut self) -> Result<List<PortLink>, ReadError>
-        ensures { Gives (λ x. (map said_link x, views self.new.rest.now)) result (links_at (views self.old.rest.now)) }
+        ensures { Gives (λ x. (map said_link x, views self.new.rest.now)) result
+            (links_at (views self.old.rest.now)) }
     {
         let first = self.link()?;
         self.links_from(first)
     }
 
     fn links_from(&mut self, first: PortLink) -> Result<List<PortLink>, ReadError>
-        ensures { Gives (λ x. (map said_link x, views self.new.rest.now)) result (links_from (said_link first) (views self.old.rest.now)) }
+        ensures { Gives (λ x. (map said_link x, views self.new.rest.now)) result
+            (links_from (said_link first) (views self.old.rest.now)) }
     {
         let mut found = List::new(self.alloc);
         found.push(first)?;
@@ -55,7 +59,8 @@ impl<'t, 'a> DesignCursor<'t, 'a> {
     /// `kind name (link, ..);`
     #[tactic(auto, unfolding(crate::specs::inner::Reading::instance_at))]
     pub(crate) fn instance(&mut self) -> Result<Item, ReadError>
-        ensures { Gives (λ x. (said_item x, views self.new.rest.now)) result (instance_at (views self.old.rest.now)) }
+        ensures { Gives (λ x. (said_item x, views self.new.rest.now)) result
+            (instance_at (views self.old.rest.now)) }
     {
         let kind = self.name()?;
         let name = self.name()?;

@@ -15,7 +15,8 @@ use av_net::{Drive, Step};
 impl<'t, 'a> DesignCursor<'t, 'a> {
     // A widening for a target, and the end.
     fn widened(&mut self, target: Name) -> Result<Item, ReadError>
-        ensures { Gives (λ x. (said_item x, views self.new.rest.now)) result (widened_at target (views self.old.rest.now)) }
+        ensures { Gives (λ x. (said_item x, views self.new.rest.now)) result
+            (widened_at target (views self.old.rest.now)) }
     {
         let (bit, operation) = self.widening()?;
         self.word(";")?;
@@ -24,7 +25,8 @@ impl<'t, 'a> DesignCursor<'t, 'a> {
 
     // Another operation for it, and the end.
     fn driven(&mut self, target: Name) -> Result<Item, ReadError>
-        ensures { Gives (λ x. (said_item x, views self.new.rest.now)) result (driven_at target (views self.old.rest.now)) }
+        ensures { Gives (λ x. (said_item x, views self.new.rest.now)) result
+            (driven_at target (views self.old.rest.now)) }
     {
         let operation = self.operation()?;
         self.word(";")?;
@@ -34,7 +36,8 @@ impl<'t, 'a> DesignCursor<'t, 'a> {
     // `assign name = ..;`
     #[tactic(auto, unfolding(crate::specs::inner::Reading::assigned_at, crate::specs::inner::Reading::given_at))]
     fn assigned(&mut self) -> Result<Item, ReadError>
-        ensures { Gives (λ x. (said_item x, views self.new.rest.now)) result (assigned_at (views self.old.rest.now)) }
+        ensures { Gives (λ x. (said_item x, views self.new.rest.now)) result
+            (assigned_at (views self.old.rest.now)) }
     {
         self.word("assign")?;
         let target = self.name()?;
@@ -64,7 +67,8 @@ impl<'t, 'a> DesignCursor<'t, 'a> {
 
     #[tactic(auto, unfolding(crate::specs::inner::Reading::reset_at))]
     fn reset(&mut self) -> Result<Literal, ReadError>
-        ensures { Gives (λ x. (sized_view x, views self.new.rest.now)) result (reset_at (views self.old.rest.now)) }
+        ensures { Gives (λ x. (sized_view x, views self.new.rest.now)) result
+            (reset_at (views self.old.rest.now)) }
     {
         self.word("<=")?;
         let literal = self.literal()?;
@@ -74,7 +78,8 @@ impl<'t, 'a> DesignCursor<'t, 'a> {
 
     #[tactic(auto, unfolding(crate::specs::inner::Reading::step_at))]
     fn step(&mut self) -> Result<Item, ReadError>
-        ensures { Gives (λ x. (said_item x, views self.new.rest.now)) result (step_at (views self.old.rest.now)) }
+        ensures { Gives (λ x. (said_item x, views self.new.rest.now)) result
+            (step_at (views self.old.rest.now)) }
     {
         self.edge()?;
         let register = self.name()?;
@@ -99,7 +104,8 @@ impl<'t, 'a> DesignCursor<'t, 'a> {
 
     #[tactic(auto, unfolding(crate::specs::inner::Reading::item_at))]
     fn item(&mut self) -> Result<Item, ReadError>
-        ensures { Gives (λ x. (said_item x, views self.new.rest.now)) result (item_at (views self.old.rest.now)) }
+        ensures { Gives (λ x. (said_item x, views self.new.rest.now)) result
+            (item_at (views self.old.rest.now)) }
     {
         if self.is_at("assign") {
             return self.assigned();
@@ -112,7 +118,8 @@ impl<'t, 'a> DesignCursor<'t, 'a> {
 
     /// Items, as many as stand there.
     pub(crate) fn items(&mut self) -> Result<List<Item>, ReadError>
-        ensures { Gives (λ x. (map said_item x, views self.new.rest.now)) result (items_at (views self.old.rest.now)) }
+        ensures { Gives (λ x. (map said_item x, views self.new.rest.now)) result
+            (items_at (views self.old.rest.now)) }
     {
         let mut found = List::new(self.alloc);
         while self.begins_item() {
@@ -124,7 +131,8 @@ impl<'t, 'a> DesignCursor<'t, 'a> {
 
     /// Those of a kind of cell: assignments alone.
     pub(crate) fn assignments(&mut self) -> Result<List<Item>, ReadError>
-        ensures { Gives (λ x. (map said_item x, views self.new.rest.now)) result (assignments_at (views self.old.rest.now)) }
+        ensures { Gives (λ x. (map said_item x, views self.new.rest.now)) result
+            (assignments_at (views self.old.rest.now)) }
     {
         let mut found = List::new(self.alloc);
         while self.is_at("assign") {

@@ -8,13 +8,16 @@ ghost use Rattle.av_vparse.specs.declared.fault.TextFault.{TextFault};
 
 /// Bytes say at most one text, whose first module begins on one line.
 pub fn at_most_one_text()
-    ensures { (bytes : Items ℕ) (some other : Text) (line next : ℕ) → Says bytes some line → Says bytes other next
-        → (some ≡ other) × (line ≡ next) }
+    ensures { (bytes : Items ℕ) (some other : Text) (line next : ℕ)
+        → Says bytes some line → Says bytes other next → (some ≡ other) × (line ≡ next) }
 {}
 
 /// Bytes say a text or have a first fault, and never both; and they have at most one.
 pub fn text_or_fault()
-    ensures some { (bytes : Items ℕ) → ((text : Text) × (line : ℕ) × Says bytes text line) ⊎ ((fault : TextFault) × IsFault bytes fault) }
-    ensures apart { (bytes : Items ℕ) (text : Text) (line : ℕ) (fault : TextFault) → Says bytes text line → IsFault bytes fault → ⊥ }
-    ensures one { (bytes : Items ℕ) (some other : TextFault) → IsFault bytes some → IsFault bytes other → some ≡ other }
+    ensures some { (bytes : Items ℕ) → ((text : Text) × (line : ℕ) × Says bytes text line)
+        ⊎ ((fault : TextFault) × IsFault bytes fault) }
+    ensures apart { (bytes : Items ℕ) (text : Text) (line : ℕ) (fault : TextFault)
+        → Says bytes text line → IsFault bytes fault → ⊥ }
+    ensures one { (bytes : Items ℕ) (some other : TextFault)
+        → IsFault bytes some → IsFault bytes other → some ≡ other }
 {}

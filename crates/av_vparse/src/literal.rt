@@ -18,7 +18,8 @@ pub(crate) struct Literal {
 
 // What follows 'd, where that comes first.
 fn after_base(bytes: &[u8]) -> Option<&[u8]>
-    ensures some { IfSome result (λ digits. (begins_base bytes.now ≡ true) × (digits.now ≡ drop 2 bytes.now)) }
+    ensures some { IfSome result (λ digits. (begins_base bytes.now ≡ true)
+        × (digits.now ≡ drop 2 bytes.now)) }
     ensures none { IfNone result (begins_base bytes.now ≡ false) }
 {
     match bytes {
@@ -68,7 +69,8 @@ fn word_of(size: &[u8], digits: &[u8]) -> Option<Literal>
 // The literal that digits, `'d` and digits spell, if its width is 1 to 64 and its value has that width.
 fn checked_literal(text: &str) -> Option<Literal>
     ensures some { IfSome result (λ x. (is_literal text.now ≡ true)
-        × (x.width.bits ≡ number_of (size_digits text.now)) × (x.value ≡ number_of (value_digits text.now))) }
+        × (x.width.bits ≡ number_of (size_digits text.now))
+        × (x.value ≡ number_of (value_digits text.now))) }
     ensures none { IfNone result (is_literal text.now ≡ false) }
 {
     let bytes = text.as_bytes();

@@ -13,7 +13,8 @@ impl<'t, 'a> DesignCursor<'t, 'a> {
     /// A name or a literal.
     #[tactic(auto, unfolding(crate::specs::inner::Reading::operand_at))]
     pub(crate) fn operand(&mut self) -> Result<Operand, ReadError>
-        ensures { Gives (λ x. (x, views self.new.rest.now)) result (operand_at (views self.old.rest.now)) }
+        ensures { Gives (λ x. (x, views self.new.rest.now)) result
+            (operand_at (views self.old.rest.now)) }
     {
         if self.is_at_literal() {
             let literal = self.literal()?;
@@ -40,7 +41,8 @@ impl<'t, 'a> DesignCursor<'t, 'a> {
     // The order that stands next.
     #[tactic(auto, unfolding(crate::specs::inner::Reading::order_at, crate::specs::inner::Reading::order_by))]
     fn order(&mut self) -> Result<Symbol, ReadError>
-        ensures { Gives (λ x. (x, views self.new.rest.now)) result (order_at (views self.old.rest.now)) }
+        ensures { Gives (λ x. (x, views self.new.rest.now)) result
+            (order_at (views self.old.rest.now)) }
     {
         match self.rest {
             [first, rest @ ..] if first.kind != DesignTokenKind::Name => match order_of(
@@ -59,7 +61,8 @@ impl<'t, 'a> DesignCursor<'t, 'a> {
     // An operand between `$signed(` and `)`.
     #[tactic(auto, unfolding(crate::specs::inner::Reading::signed_at))]
     fn signed(&mut self) -> Result<Operand, ReadError>
-        ensures { Gives (λ x. (x, views self.new.rest.now)) result (signed_at (views self.old.rest.now)) }
+        ensures { Gives (λ x. (x, views self.new.rest.now)) result
+            (signed_at (views self.old.rest.now)) }
     {
         self.pair("$signed", "(")?;
         let operand = self.operand()?;
@@ -69,7 +72,8 @@ impl<'t, 'a> DesignCursor<'t, 'a> {
 
     #[tactic(auto, unfolding(crate::specs::inner::Reading::comparison_at))]
     fn comparison(&mut self) -> Result<Operation, ReadError>
-        ensures { Gives (λ x. (x, views self.new.rest.now)) result (comparison_at (views self.old.rest.now)) }
+        ensures { Gives (λ x. (x, views self.new.rest.now)) result
+            (comparison_at (views self.old.rest.now)) }
     {
         let left = self.signed()?;
         let symbol = self.order()?;
@@ -84,7 +88,8 @@ impl<'t, 'a> DesignCursor<'t, 'a> {
     // What follows a condition and its `?`.
     #[tactic(auto, unfolding(crate::specs::inner::Reading::choice_at))]
     fn choice(&mut self, condition: Operand) -> Result<Operation, ReadError>
-        ensures { Gives (λ x. (x, views self.new.rest.now)) result (choice_at condition (views self.old.rest.now)) }
+        ensures { Gives (λ x. (x, views self.new.rest.now)) result
+            (choice_at condition (views self.old.rest.now)) }
     {
         let yes = self.operand()?;
         self.word(":")?;
@@ -95,7 +100,8 @@ impl<'t, 'a> DesignCursor<'t, 'a> {
     // What follows a first operand.
     #[tactic(auto, unfolding(crate::specs::inner::Reading::operation_by, crate::specs::inner::Reading::binary_by))]
     fn operation_by(&mut self, left: Operand) -> Result<Operation, ReadError>
-        ensures { Gives (λ x. (x, views self.new.rest.now)) result (operation_by left (views self.old.rest.now)) }
+        ensures { Gives (λ x. (x, views self.new.rest.now)) result
+            (operation_by left (views self.old.rest.now)) }
     {
         if self.is_at("?") {
             self.skip();
@@ -118,7 +124,8 @@ impl<'t, 'a> DesignCursor<'t, 'a> {
     // An operand behind which stands no operator: a name may have a part selected.
     #[tactic(auto, unfolding(crate::specs::inner::Reading::alone_by))]
     fn alone(&mut self, operand: Operand) -> Result<Operation, ReadError>
-        ensures { Gives (λ x. (x, views self.new.rest.now)) result (alone_by operand (views self.old.rest.now)) }
+        ensures { Gives (λ x. (x, views self.new.rest.now)) result
+            (alone_by operand (views self.old.rest.now)) }
     {
         match operand {
             Operand::Name(name) if self.is_at("[") => {
@@ -132,7 +139,8 @@ impl<'t, 'a> DesignCursor<'t, 'a> {
     // `[high:low]`
     #[tactic(auto, unfolding(crate::specs::inner::Reading::selection_at))]
     fn selection(&mut self) -> Result<(u8, u8), ReadError>
-        ensures { Gives (λ x. (x, views self.new.rest.now)) result (selection_at (views self.old.rest.now)) }
+        ensures { Gives (λ x. (x, views self.new.rest.now)) result
+            (selection_at (views self.old.rest.now)) }
     {
         self.word("[")?;
         let high = self.number(0, MOST_BIT)?;
@@ -145,7 +153,8 @@ impl<'t, 'a> DesignCursor<'t, 'a> {
     /// `{{by{name[bit:bit]}}, name}`, as the bit and the operation.
     #[tactic(auto, unfolding(crate::specs::inner::Reading::widening_at))]
     pub(crate) fn widening(&mut self) -> Result<(u64, Operation), ReadError>
-        ensures { Gives (λ x. (x, views self.new.rest.now)) result (widening_at (views self.old.rest.now)) }
+        ensures { Gives (λ x. (x, views self.new.rest.now)) result
+            (widening_at (views self.old.rest.now)) }
     {
         self.pair("{", "{")?;
         let by = self.number(1, MOST_BIT)?;
@@ -163,7 +172,8 @@ impl<'t, 'a> DesignCursor<'t, 'a> {
     // `[bit:bit]`
     #[tactic(auto, unfolding(crate::specs::inner::Reading::selected_bit_at))]
     fn selected_bit(&mut self) -> Result<u64, ReadError>
-        ensures { Gives (λ x. (x, views self.new.rest.now)) result (selected_bit_at (views self.old.rest.now)) }
+        ensures { Gives (λ x. (x, views self.new.rest.now)) result
+            (selected_bit_at (views self.old.rest.now)) }
     {
         self.word("[")?;
         let bit = self.number(0, MOST_BIT)?;
@@ -176,7 +186,8 @@ impl<'t, 'a> DesignCursor<'t, 'a> {
     /// What an `assign` gives but for a widening.
     #[tactic(auto, unfolding(crate::specs::inner::Reading::operation_at))]
     pub(crate) fn operation(&mut self) -> Result<Operation, ReadError>
-        ensures { Gives (λ x. (x, views self.new.rest.now)) result (operation_at (views self.old.rest.now)) }
+        ensures { Gives (λ x. (x, views self.new.rest.now)) result
+            (operation_at (views self.old.rest.now)) }
     {
         if self.is_at("$signed") {
             return self.comparison();

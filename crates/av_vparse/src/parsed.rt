@@ -78,7 +78,8 @@ impl Header {
 
     /// The module with this header and body.
     pub(crate) fn with(self, declarations: List<SignalDeclaration>, items: List<Item>) -> ModuleText
-        ensures { said_module result ≡ with_body (said_header self) (map said_declaration declarations) (map said_item items) }
+        ensures { said_module result ≡ with_body
+            (said_header self) (map said_declaration declarations) (map said_item items) }
     {
         ModuleText {
             name: self.name,

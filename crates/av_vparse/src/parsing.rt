@@ -50,7 +50,8 @@ pub fn parse(alloc: Global, bytes: &[u8]) -> Result<Parsed, TextFault>
     ensures found { IfOk result (λ parsed. Says bytes.now (said parsed.text) parsed.line) }
 
     // A fault is that of the bytes. A law tells that they have one at most.
-    ensures fault { (fault : TextFault) → result ≡ Err fault → (fault ≡ TextFault.Memory) ⊎ IsFault bytes.now fault }
+    ensures fault { (fault : TextFault)
+        → result ≡ Err fault → (fault ≡ TextFault.Memory) ⊎ IsFault bytes.now fault }
 {
     read(alloc, bytes)
 }

@@ -29,7 +29,8 @@ impl<'t, 'a> DesignCursor<'t, 'a> {
     // The ports that each top has.
     #[tactic(auto, unfolding(crate::specs::inner::Reading::clocked_at))]
     fn clocked(&mut self) -> Result<(), ReadError>
-        ensures { Gives (λ _. views self.new.rest.now) result (clocked_at (views self.old.rest.now)) }
+        ensures { Gives (λ _. views self.new.rest.now) result
+            (clocked_at (views self.old.rest.now)) }
     {
         self.pair("(", "input")?;
         self.this_name("clk")?;
@@ -40,7 +41,8 @@ impl<'t, 'a> DesignCursor<'t, 'a> {
     // What ends the list of ports.
     #[tactic(auto, unfolding(crate::specs::inner::Reading::closed_at))]
     fn closed(&mut self) -> Result<(), ReadError>
-        ensures { Gives (λ _. views self.new.rest.now) result (closed_at (views self.old.rest.now)) }
+        ensures { Gives (λ _. views self.new.rest.now) result
+            (closed_at (views self.old.rest.now)) }
     {
         if self.is_at(",") {
             self.skip();
@@ -51,7 +53,8 @@ impl<'t, 'a> DesignCursor<'t, 'a> {
 
     #[tactic(auto, unfolding(crate::specs::inner::Reading::header_at))]
     fn header(&mut self) -> Result<Header, ReadError>
-        ensures { Gives (λ x. (said_header x, views self.new.rest.now)) result (header_at (views self.old.rest.now)) }
+        ensures { Gives (λ x. (said_header x, views self.new.rest.now)) result
+            (header_at (views self.old.rest.now)) }
     {
         self.word("module")?;
         let name = self.name()?;
@@ -68,7 +71,8 @@ impl<'t, 'a> DesignCursor<'t, 'a> {
 
     // What follows the header.
     fn top_body(&mut self, header: Header) -> Result<ModuleText, ReadError>
-        ensures { Gives (λ x. (said_module x, views self.new.rest.now)) result (top_body_at (said_header header) (views self.old.rest.now)) }
+        ensures { Gives (λ x. (said_module x, views self.new.rest.now)) result
+            (top_body_at (said_header header) (views self.old.rest.now)) }
     {
         let declarations = self.declarations()?;
         let items = self.items()?;
@@ -78,7 +82,8 @@ impl<'t, 'a> DesignCursor<'t, 'a> {
 
     #[tactic(auto, unfolding(crate::specs::inner::Reading::top_at))]
     fn top(&mut self) -> Result<ModuleText, ReadError>
-        ensures { Gives (λ x. (said_module x, views self.new.rest.now)) result (top_at (views self.old.rest.now)) }
+        ensures { Gives (λ x. (said_module x, views self.new.rest.now)) result
+            (top_at (views self.old.rest.now)) }
     {
         let header = self.header()?;
         self.top_body(header)

@@ -59,7 +59,8 @@ fn index_of(text: &[u8]) -> Option<i64>
 // Puts the indices between commas at the end of others, where there are at most so many.
 fn push_indices(entries: &mut ArrayVec<i64, 4>, text: &[u8], room: u32) -> Option<()>
     requires { length entries.old.items + room ≤ 4 }
-    ensures { option_map (λ _. entries.new.items) result ≡ option_map (λ is. entries.old.items ++ is) (indices_of room text.now) }
+    ensures { option_map (λ _. entries.new.items) result
+        ≡ option_map (λ is. entries.old.items ++ is) (indices_of room text.now) }
 {
     if room == 0 {
         return None;

@@ -28,8 +28,10 @@ pub fn fronts()
 
 /// A law: each text spells a design or has a first fault, and none does both.
 pub fn design_or_fault()
-    ensures either { (bytes : Items ℕ) → ((design : Spelled) × Spells bytes design) ⊎ ((f : Fault) × IsFault bytes f) }
-    ensures not_both { (bytes : Items ℕ) (design : Spelled) (f : Fault) → Spells bytes design → IsFault bytes f → ⊥ }
+    ensures either { (bytes : Items ℕ)
+        → ((design : Spelled) × Spells bytes design) ⊎ ((f : Fault) × IsFault bytes f) }
+    ensures not_both { (bytes : Items ℕ) (design : Spelled) (f : Fault)
+        → Spells bytes design → IsFault bytes f → ⊥ }
 {}
 
 /// A law: a design that a text spells is sound.
@@ -45,8 +47,8 @@ pub fn read_back()
 
 /// A law: two sound designs with one text are one design.
 pub fn one_text()
-    ensures { (some other : Spelled) → IsSoundDesign some → IsSoundDesign other → text some ≡ text other
-        → some ≡ other }
+    ensures { (some other : Spelled)
+        → IsSoundDesign some → IsSoundDesign other → text some ≡ text other → some ≡ other }
 {}
 
 /// A law: a design whose parts the grammar can spell is sound, or its own text has a first fault, and never both. The
@@ -55,5 +57,6 @@ pub fn sound_or_fault()
     ensures either { (design : Spelled) → HasSpelledParts design
         → IsSoundDesign design ⊎ ((f : Fault) × IsFault (text design) f) }
     ensures spelled { (design : Spelled) → IsSoundDesign design → HasSpelledParts design }
-    ensures not_both { (design : Spelled) (f : Fault) → IsSoundDesign design → IsFault (text design) f → ⊥ }
+    ensures not_both { (design : Spelled) (f : Fault)
+        → IsSoundDesign design → IsFault (text design) f → ⊥ }
 {}

@@ -11,14 +11,16 @@ use av_page::Page;
 /// Puts the lines of a listing on the page.
 #[tactic(auto, unfolding(av_net::specs::Texts::listing_text))]
 pub(crate) fn write_listing<K: Sink>(page: &mut Page, sink: &mut K, listing: &Listing)
-    ensures { Puts (K.state sink.old) (K.state sink.new) page.old page.new (listing_text listing.now) }
+    ensures { Puts (K.state sink.old)
+        (K.state sink.new) page.old page.new (listing_text listing.now) }
 {
     write_entry_lines(page, sink, "in", listing.ins.as_slice());
     write_entry_lines(page, sink, "at", listing.ats.as_slice());
 }
 
 fn write_entry_lines<K: Sink>(page: &mut Page, sink: &mut K, kind: &str, entries: &[Entry])
-    ensures { Puts (K.state sink.old) (K.state sink.new) page.old page.new (flat_map (entry_line kind.now) entries.now) }
+    ensures { Puts (K.state sink.old)
+        (K.state sink.new) page.old page.new (flat_map (entry_line kind.now) entries.now) }
 {
     for entry in entries {
         write_entry_line(page, sink, kind, entry);
@@ -26,7 +28,8 @@ fn write_entry_lines<K: Sink>(page: &mut Page, sink: &mut K, kind: &str, entries
 }
 
 fn write_entry_line<K: Sink>(page: &mut Page, sink: &mut K, kind: &str, entry: &Entry)
-    ensures { Puts (K.state sink.old) (K.state sink.new) page.old page.new (entry_line kind.now entry.now) }
+    ensures { Puts (K.state sink.old)
+        (K.state sink.new) page.old page.new (entry_line kind.now entry.now) }
 {
     page.put(sink, "// ");
     write_entry(page, sink, kind, entry);
@@ -35,7 +38,8 @@ fn write_entry_line<K: Sink>(page: &mut Page, sink: &mut K, kind: &str, entry: &
 
 /// Puts a line of a listing on the page, after this word and without its end: `in X (0) i0 0`.
 pub fn write_entry<K: Sink>(page: &mut Page, sink: &mut K, kind: &str, entry: &Entry)
-    ensures { Puts (K.state sink.old) (K.state sink.new) page.old page.new (entry_text kind.now entry.now) }
+    ensures { Puts (K.state sink.old)
+        (K.state sink.new) page.old page.new (entry_text kind.now entry.now) }
 {
     page.put(sink, kind);
     page.put(sink, " ");
@@ -58,7 +62,8 @@ pub fn write_point<K: Sink>(page: &mut Page, sink: &mut K, point: &Point)
 }
 
 fn write_indices<K: Sink>(page: &mut Page, sink: &mut K, indices: &[i64])
-    ensures { Puts (K.state sink.old) (K.state sink.new) page.old page.new (entries_text indices.now) }
+    ensures { Puts (K.state sink.old)
+        (K.state sink.new) page.old page.new (entries_text indices.now) }
 {
     if let [first, later @ ..] = indices {
         page.put_number(sink, *first);
@@ -68,7 +73,8 @@ fn write_indices<K: Sink>(page: &mut Page, sink: &mut K, indices: &[i64])
 
 // Each of them behind a comma.
 fn write_later<K: Sink>(page: &mut Page, sink: &mut K, later: &[i64])
-    ensures { Puts (K.state sink.old) (K.state sink.new) page.old page.new (flat_map (λ index. codes "," ++ signed_decimal index) later.now) }
+    ensures { Puts (K.state sink.old) (K.state sink.new) page.old page.new
+        (flat_map (λ index. codes "," ++ signed_decimal index) later.now) }
 {
     for index in later {
         page.put(sink, ",");

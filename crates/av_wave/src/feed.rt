@@ -124,7 +124,8 @@ pub fn present(
     requires left { AreLeft clock.old.of.inputs given.now cycle 0 (drop first given.now) }
     ensures of { clock.new.of ≡ clock.old.of }
     ensures ports { ArePresented clock.new.of given.now cycle inputs (carried clock.new) words.new }
-    ensures registers { Agree (names_of clock.new.of.registers) (carried clock.old) (carried clock.new) }
+    ensures registers { Agree (names_of clock.new.of.registers)
+        (carried clock.old) (carried clock.new) }
     ensures left { AreLeft clock.new.of.inputs given.now (cycle + 1) 0 (drop result given.now) }
     ensures within { result ≤ length given.now }
     ensures room { length words.new ≡ length words.old }

@@ -29,8 +29,10 @@ pub(crate) struct Told {
 
 // A name before the end of a line.
 fn name_in(text: &[u8]) -> Option<&[u8]>
-    ensures some { IfSome result (λ name. IsName name.now × (text.now ≡ name.now ++ codes " $end\n")) }
-    ensures none { IfNone result ((name : List ℕ) → IsName name → text.now ≡ name ++ codes " $end\n" → ⊥) }
+    ensures some { IfSome result (λ name. IsName name.now
+        × (text.now ≡ name.now ++ codes " $end\n")) }
+    ensures none { IfNone result ((name : List ℕ)
+        → IsName name → text.now ≡ name ++ codes " $end\n" → ⊥) }
 {
     let name = before(text, b" $end\n".as_slice())?;
     if is_name(name) { Some(name) } else { None }
@@ -46,8 +48,10 @@ pub(crate) fn scope_name(line: &[u8]) -> Option<&[u8]>
 
 /// The port on the line that declares the one with this number.
 pub(crate) fn declared(line: &[u8], number: u32) -> Option<PortDeclaration<'_>>
-    ensures some { IfSome result (λ found. IsName found.name.now × (line.now ≡ port_line number (record { name = found.name.now; width = found.width }))) }
-    ensures none { IfNone result ((port : AnyPort) → IsName port.name → line.now ≡ port_line number port → ⊥) }
+    ensures some { IfSome result (λ found. IsName found.name.now
+        × (line.now ≡ port_line number (record { name = found.name.now; width = found.width }))) }
+    ensures none { IfNone result ((port : AnyPort)
+        → IsName port.name → line.now ≡ port_line number port → ⊥) }
 {
     let (width, text) = width_in(behind(line, b"$var wire ".as_slice())?)?;
     let text = behind(text, Code::new(number).as_bytes())?;
@@ -91,7 +95,8 @@ fn bit(byte: u8) -> Option<u64>
 fn bit_in(text: &[u8], ports: &[Port]) -> Option<Told>
     requires { length ports.now ≤ 1073741824 }
     ensures some { IfSome result (λ told. SaysBit ports.now text.now told.port told.value) }
-    ensures none { IfNone result ((number value : ℕ) → SaysBit ports.now text.now number value → ⊥) }
+    ensures none { IfNone result ((number value : ℕ)
+        → SaysBit ports.now text.now number value → ⊥) }
 {
     let (first, code) = text.split_first()?;
     let value = bit(*first)?;
@@ -108,7 +113,8 @@ fn bit_in(text: &[u8], ports: &[Port]) -> Option<Told>
 fn vector_in(text: &[u8], ports: &[Port]) -> Option<Told>
     requires { length ports.now ≤ 1073741824 }
     ensures some { IfSome result (λ told. SaysVector ports.now text.now told.port told.value) }
-    ensures none { IfNone result ((number value : ℕ) → SaysVector ports.now text.now number value → ⊥) }
+    ensures none { IfNone result ((number value : ℕ)
+        → SaysVector ports.now text.now number value → ⊥) }
 {
     let (value, code) = value_in(text)?;
     let port = port_of(code, ports.len() as u32)?;

@@ -17,8 +17,10 @@ struct LeadingDigits<'a> {
 }
 
 fn parted(text: &[u8]) -> Option<LeadingDigits<'_>>
-    ensures some { IfSome result (λ parts. AreDigits parts.digits.now × (text.now ≡ parts.digits.now ++ 32 ∷ parts.rest.now)) }
-    ensures none { IfNone result ((digits rest : List ℕ) → AreDigits digits → text.now ≡ digits ++ 32 ∷ rest → ⊥) }
+    ensures some { IfSome result (λ parts. AreDigits parts.digits.now
+        × (text.now ≡ parts.digits.now ++ 32 ∷ parts.rest.now)) }
+    ensures none { IfNone result ((digits rest : List ℕ)
+        → AreDigits digits → text.now ≡ digits ++ 32 ∷ rest → ⊥) }
 {
     let len = digits_len(text);
     let rest = behind(&text[len..], b" ".as_slice())?;
@@ -42,7 +44,8 @@ fn digit(byte: u8) -> Option<u32>
 // The number of two digits, of which the first is not 0.
 fn two_digits(high: u8, low: u8) -> Option<u32>
     ensures some { IfSome result (λ number. decimal number ≡ high ∷ low ∷ []) }
-    ensures none { IfNone result ((number : ℕ) → number < 100 → decimal number ≡ high ∷ low ∷ [] → ⊥) }
+    ensures none { IfNone result ((number : ℕ)
+        → number < 100 → decimal number ≡ high ∷ low ∷ [] → ⊥) }
 {
     let tens = digit(high)?;
     let ones = digit(low)?;
@@ -68,7 +71,8 @@ fn small_number(digits: &[u8]) -> Option<u32>
 /// A width, and what stands behind it and a blank.
 pub(crate) fn width_in(text: &[u8]) -> Option<(Width, &[u8])>
     ensures some { IfSome result (λ found. text.now ≡ decimal found.0.bits ++ 32 ∷ found.1.now) }
-    ensures none { IfNone result ((width : Bits) (rest : List ℕ) → text.now ≡ decimal width.bits ++ 32 ∷ rest → ⊥) }
+    ensures none { IfNone result ((width : Bits) (rest : List ℕ)
+        → text.now ≡ decimal width.bits ++ 32 ∷ rest → ⊥) }
 {
     let parts = parted(text)?;
     let width = Width::new(small_number(parts.digits)?)?;
@@ -77,8 +81,10 @@ pub(crate) fn width_in(text: &[u8]) -> Option<(Width, &[u8])>
 
 /// A value in binary, and what stands behind it and a blank.
 pub(crate) fn value_in(text: &[u8]) -> Option<(u64, &[u8])>
-    ensures some { IfSome result (λ found. (found.0 < 2 ^ 64) × (text.now ≡ binary found.0 ++ 32 ∷ found.1.now)) }
-    ensures none { IfNone result ((value : ℕ) (rest : List ℕ) → value < 2 ^ 64 → text.now ≡ binary value ++ 32 ∷ rest → ⊥) }
+    ensures some { IfSome result (λ found. (found.0 < 2 ^ 64)
+        × (text.now ≡ binary found.0 ++ 32 ∷ found.1.now)) }
+    ensures none { IfNone result ((value : ℕ) (rest : List ℕ)
+        → value < 2 ^ 64 → text.now ≡ binary value ++ 32 ∷ rest → ⊥) }
 {
     let parts = parted(text)?;
     Some((binary_in(parts.digits)?, parts.rest))

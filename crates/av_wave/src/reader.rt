@@ -21,7 +21,8 @@ pub fn read_wave(alloc: Global, bytes: &[u8]) -> Result<Wave, WaveFault>
     // What is read is the wave's text, and a wave's text is read, unless memory runs out.
     ensures wave { IfOk result IsWave }
     ensures found { IfOk result (λ wave. bytes.now ≡ dump_text wave) }
-    ensures only { (wave : Recording) → IsWave wave → bytes.now ≡ dump_text wave → GivesWave result wave }
+    ensures only { (wave : Recording)
+        → IsWave wave → bytes.now ≡ dump_text wave → GivesWave result wave }
 
     // Each fault is that of the first faulty line, and where a line is faulty its fault is answered.
     ensures fault { (line : ℕ) → result ≡ Err (Syntax line) → IsWaveFault bytes.now line }

@@ -121,7 +121,8 @@ impl Recorder {
     pub(crate) fn change(&mut self, port: u32, value: u64) -> Result<(), Memory>
         requires next { IsNext self.old port value }
         requires fits { FitsPort self.old.ports port value }
-        ensures { OnOk result (self.new ≡ told_of self.old (record { cycle = self.old.cycle; port = port; value = value })) }
+        ensures { OnOk result (self.new
+            ≡ told_of self.old (record { cycle = self.old.cycle; port = port; value = value })) }
     {
         let _most = self.ports.len();
         self.changes.push(Change {
@@ -154,7 +155,8 @@ impl Recorder {
         requires cycle { self.old.cycle < 4096 }
         requires open { self.old.told ≡ 0 }
         requires count { length words.now ≡ length self.old.ports }
-        requires fits { (k : ℕ) → k < length words.now → FitsPort self.old.ports k (slice_index words.now k) }
+        requires fits { (k : ℕ) → k < length words.now
+            → FitsPort self.old.ports k (slice_index words.now k) }
         ensures records { OnOk result (Records self.old words.now self.new) }
         ensures part { OnOk result (IsPart self.new) }
     {

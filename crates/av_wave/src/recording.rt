@@ -22,7 +22,8 @@ use std::alloc::Global;
 fn recorder_of(alloc: Global, of: &Module) -> Result<Recorder, Memory>
     requires sound { IsSound of.now }
     requires spelled { HasSpelling of.now }
-    ensures first { IfOk result (λ recorder. recorder ≡ at_first of.now.name (header_ports of.now)) }
+    ensures first { IfOk result (λ recorder.
+        recorder ≡ at_first of.now.name (header_ports of.now)) }
     ensures part { IfOk result IsPart }
 {
     let name = Name::new(alloc, of.name.as_str())?;

@@ -43,10 +43,14 @@ pub fn write_run<K: Sink>(
     requires sound { IsSound of.now }
     requires spelled { HasSpelling of.now }
     requires stimulus { IsFor of.now.inputs stimulus.now }
-    ensures added { OnOk result (AddsDump of.now stimulus.now (K.state sink.old).held (K.state sink.new).held) }
-    ensures memory { result ≡ Err run_fault.Memory → (K.state sink.new).held ≡ (K.state sink.old).held }
-    ensures fault { result ≡ Err run_fault.Write → HasRisen (K.state sink.old).faults (K.state sink.new).faults }
-    ensures front { result ≡ Err run_fault.Write → AddsDumpPrefix of.now stimulus.now (K.state sink.old).held (K.state sink.new).held }
+    ensures added { OnOk result
+        (AddsDump of.now stimulus.now (K.state sink.old).held (K.state sink.new).held) }
+    ensures memory { result ≡ Err run_fault.Memory
+        → (K.state sink.new).held ≡ (K.state sink.old).held }
+    ensures fault { result ≡ Err run_fault.Write
+        → HasRisen (K.state sink.old).faults (K.state sink.new).faults }
+    ensures front { result ≡ Err run_fault.Write
+        → AddsDumpPrefix of.now stimulus.now (K.state sink.old).held (K.state sink.new).held }
     ensures later { (K.state sink.old).faults ≤ (K.state sink.new).faults }
 {
     match make_ready(alloc, of) {
@@ -62,7 +66,8 @@ pub fn write_run<K: Sink>(
 fn make_ready<'a>(alloc: Global, of: &'a Module) -> Result<PreparedRun<'a>, Memory>
     requires { IsSound of.now }
     ensures parts { IfOk result (λ parts. IsPrepared of.now parts) }
-    ensures before { IfOk result (λ parts. parts.before ≡ replicate (length (header_ports of.now)) 0) }
+    ensures before { IfOk result (λ parts.
+        parts.before ≡ replicate (length (header_ports of.now)) 0) }
 {
     let ports = header_ports(alloc, of)?;
     let words = zeros(alloc, ports.len())?;
@@ -89,9 +94,11 @@ fn write_dump<K: Sink>(
     requires stimulus { IsFor of.now.inputs stimulus.now }
     requires parts { IsPrepared of.now parts }
     requires before { parts.before ≡ replicate (length (header_ports of.now)) 0 }
-    ensures added { OnOk result (AddsDump of.now stimulus.now (K.state sink.old).held (K.state sink.new).held) }
+    ensures added { OnOk result
+        (AddsDump of.now stimulus.now (K.state sink.old).held (K.state sink.new).held) }
     ensures fault { IsErr result → HasRisen (K.state sink.old).faults (K.state sink.new).faults }
-    ensures front { OnErr result (AddsDumpPrefix of.now stimulus.now (K.state sink.old).held (K.state sink.new).held) }
+    ensures front { OnErr result
+        (AddsDumpPrefix of.now stimulus.now (K.state sink.old).held (K.state sink.new).held) }
     ensures later { (K.state sink.old).faults ≤ (K.state sink.new).faults }
 {
     let mut page = Page::new();

@@ -15,9 +15,11 @@ use av_page::Page;
 
 /// Writes the text of a wave as a value change dump. It takes no memory.
 pub fn write_wave<K: Sink>(wave: &Wave, sink: &mut K) -> Result<(), WriteFault>
-    ensures added { OnOk result (Adds (K.state sink.old).held (K.state sink.new).held (dump_text wave.now)) }
+    ensures added { OnOk result
+        (Adds (K.state sink.old).held (K.state sink.new).held (dump_text wave.now)) }
     ensures fault { IsErr result → HasRisen (K.state sink.old).faults (K.state sink.new).faults }
-    ensures front { OnErr result (AddsPrefix (K.state sink.old).held (K.state sink.new).held (dump_text wave.now)) }
+    ensures front { OnErr result
+        (AddsPrefix (K.state sink.old).held (K.state sink.new).held (dump_text wave.now)) }
     ensures later { (K.state sink.old).faults ≤ (K.state sink.new).faults }
 {
     let mut page = Page::new();
@@ -36,7 +38,8 @@ fn put_wave<K: Sink>(page: &mut Page, sink: &mut K, wave: &Wave)
 
 /// Puts the lines before the first cycle.
 pub(crate) fn put_head<K: Sink>(page: &mut Page, sink: &mut K, name: &Name, ports: &List<Port>)
-    ensures { Puts (K.state sink.old) (K.state sink.new) page.old page.new (joined (head_lines name.now ports.now)) }
+    ensures { Puts (K.state sink.old)
+        (K.state sink.new) page.old page.new (joined (head_lines name.now ports.now)) }
 {
     page.put(sink, "$timescale 1ns $end\n");
     page.put(sink, "$scope module ");
@@ -48,7 +51,8 @@ pub(crate) fn put_head<K: Sink>(page: &mut Page, sink: &mut K, name: &Name, port
 }
 
 fn put_ports<K: Sink>(page: &mut Page, sink: &mut K, ports: &List<Port>)
-    ensures { Puts (K.state sink.old) (K.state sink.new) page.old page.new (joined (port_lines 0 ports.now)) }
+    ensures { Puts (K.state sink.old)
+        (K.state sink.new) page.old page.new (joined (port_lines 0 ports.now)) }
 {
     let _most = ports.len();
     for (number, port) in ports.as_slice().iter().enumerate() {
@@ -58,7 +62,8 @@ fn put_ports<K: Sink>(page: &mut Page, sink: &mut K, ports: &List<Port>)
 
 // As `$var wire 8 ! i0 $end`.
 fn put_port<K: Sink>(page: &mut Page, sink: &mut K, number: u32, port: &Port)
-    ensures { Puts (K.state sink.old) (K.state sink.new) page.old page.new (port_line number port.now) }
+    ensures { Puts (K.state sink.old)
+        (K.state sink.new) page.old page.new (port_line number port.now) }
 {
     page.put(sink, "$var wire ");
     page.put_number(sink, port.width.bits);
@@ -96,7 +101,8 @@ pub(crate) fn put_cycle<K: Sink>(
 )
     requires ports { length words.now ≡ length ports.now }
     requires before { length words.now ≡ length before.now }
-    ensures { Puts (K.state sink.old) (K.state sink.new) page.old page.new (joined (map (change_line ports.now) (news cycle before.now words.now (length words.now)))) }
+    ensures { Puts (K.state sink.old) (K.state sink.new) page.old page.new (joined
+        (map (change_line ports.now) (news cycle before.now words.now (length words.now)))) }
 {
     let _most = ports.len();
     let slice = ports.as_slice();
@@ -113,7 +119,8 @@ pub(crate) fn put_cycle<K: Sink>(
 // Puts the line of a change, unless the port had that value before. In the first cycle each port changes.
 fn put_news<K: Sink>(page: &mut Page, sink: &mut K, ports: &[Port], before: u64, change: Change)
     requires { change.port < length ports.now }
-    ensures { Puts (K.state sink.old) (K.state sink.new) page.old page.new (if is_news change.cycle before change.value then change_line ports.now change else []) }
+    ensures { Puts (K.state sink.old) (K.state sink.new) page.old page.new
+        (if is_news change.cycle before change.value then change_line ports.now change else []) }
 {
     if !is_news(change.cycle, before, change.value) {
         return;
@@ -129,7 +136,8 @@ fn is_news(cycle: u32, before: u64, value: u64) -> bool
 
 // The lines that begin the cycles behind one, up to another.
 fn put_times<K: Sink>(page: &mut Page, sink: &mut K, from: u32, to: u32)
-    ensures { Puts (K.state sink.old) (K.state sink.new) page.old page.new (joined (times from to)) }
+    ensures { Puts (K.state sink.old)
+        (K.state sink.new) page.old page.new (joined (times from to)) }
 {
     for cycle in from..to {
         put_time(page, sink, cycle + 1);
@@ -139,7 +147,8 @@ fn put_times<K: Sink>(page: &mut Page, sink: &mut K, from: u32, to: u32)
 // The changes, and the lines that begin the cycles up to the last change. Its cycle is the answer.
 fn put_changes<K: Sink>(page: &mut Page, sink: &mut K, ports: &[Port], changes: &[Change]) -> u32
     requires ports { All (λ g. g.port < length ports.now) changes.now }
-    ensures put { Puts (K.state sink.old) (K.state sink.new) page.old page.new (joined (lines_to ports.now 0 changes.now)) }
+    ensures put { Puts (K.state sink.old)
+        (K.state sink.new) page.old page.new (joined (lines_to ports.now 0 changes.now)) }
     ensures last { result ≡ last_cycle 0 changes.now }
 {
     let mut cycle = 0;
@@ -154,7 +163,8 @@ fn put_changes<K: Sink>(page: &mut Page, sink: &mut K, ports: &[Port], changes: 
 // As `b101 !`, or as `1!` where the port has one bit.
 fn put_change<K: Sink>(page: &mut Page, sink: &mut K, ports: &[Port], change: Change)
     requires { change.port < length ports.now }
-    ensures { Puts (K.state sink.old) (K.state sink.new) page.old page.new (change_line ports.now change) }
+    ensures { Puts (K.state sink.old)
+        (K.state sink.new) page.old page.new (change_line ports.now change) }
 {
     put_value(page, sink, &ports[change.port as usize], change.value);
     put_code(page, sink, change.port);
@@ -163,7 +173,8 @@ fn put_change<K: Sink>(page: &mut Page, sink: &mut K, ports: &[Port], change: Ch
 
 // As `b101 `, or as `1` where the port has one bit.
 fn put_value<K: Sink>(page: &mut Page, sink: &mut K, port: &Port, value: u64)
-    ensures { Puts (K.state sink.old) (K.state sink.new) page.old page.new (if port.now.width.bits == 1 then binary value else codes "b" ++ binary value ++ codes " ") }
+    ensures { Puts (K.state sink.old) (K.state sink.new) page.old page.new (if
+        port.now.width.bits == 1 then binary value else codes "b" ++ binary value ++ codes " ") }
 {
     if port.width.bits == 1 {
         put_binary(page, sink, value);
@@ -174,7 +185,8 @@ fn put_value<K: Sink>(page: &mut Page, sink: &mut K, port: &Port, value: u64)
 
 // As `b101 `.
 fn put_vector<K: Sink>(page: &mut Page, sink: &mut K, value: u64)
-    ensures { Puts (K.state sink.old) (K.state sink.new) page.old page.new (codes "b" ++ binary value ++ codes " ") }
+    ensures { Puts (K.state sink.old)
+        (K.state sink.new) page.old page.new (codes "b" ++ binary value ++ codes " ") }
 {
     page.put(sink, "b");
     put_binary(page, sink, value);

@@ -17,7 +17,8 @@ use std::test::Fail;
 
 // How many indices each node has.
 fn dimensions(alloc: Global, flat: &Flat) -> Result<Vec<u8>, Memory>
-    ensures { IfOk result (λ dims. dims.items ≡ map (λ v. v.domain.dim) (nodes (view_system flat.now))) }
+    ensures { IfOk result (λ dims.
+        dims.items ≡ map (λ v. v.domain.dim) (nodes (view_system flat.now))) }
 {
     let mut dims = Vec::new(alloc);
     for var in flat.vars.as_slice() {
@@ -39,7 +40,8 @@ fn is_vector(dim: u8, point: &Point) -> bool
 // Whether they are vectors of these dimensions with small entries.
 fn are_vectors(dims: &[u8], linear: &[Point]) -> bool
     ensures one_each { IsTrue result → length linear.now ≡ length dims.now }
-    ensures sizes { IsTrue result → (k : ℕ) → k < length dims.now → length (part linear.now k) ≡ slice_index_or dims.now k 0 }
+    ensures sizes { IsTrue result → (k : ℕ)
+        → k < length dims.now → length (part linear.now k) ≡ slice_index_or dims.now k 0 }
     ensures entries { IsTrue result → (k : ℕ) → k < length dims.now → AtMost 4 (part linear.now k) }
 {
     if linear.len() != dims.len() {
