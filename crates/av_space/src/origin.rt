@@ -1,14 +1,11 @@
 //! Where the pieces on the cells of an array read.
 
-ghost use Rattle.std.specs.Prelude.{ℕ, ◌≡◌, ◌↔◌, ◌<◌, IsTrue, All, AllPairs, Contains, Some, length, slice_get, MatchOption};
-ghost use Rattle.av_tree.specs.Points.{Point as PointSeen};
-ghost use Rattle.av_flat.specs.Helped.{before};
-ghost use Rattle.av_flat.specs.Points.{has};
+ghost use Rattle.std.specs.Prelude.{◌≡◌, ◌↔◌, ◌<◌, IsTrue, All, AllPairs, Contains, Some, length, slice_get, MatchOption};
 ghost use Rattle.av_flat.specs.Trees.{view, view_piece};
 ghost use Rattle.av_space.specs.Ports.{IsPortBefore};
 ghost use Rattle.av_space.specs.Sites.{place_of};
 ghost use Rattle.av_space.specs.Spots.{own_way};
-ghost use Rattle.av_space.specs.Taps.{IsReadAt, IsReadBy};
+ghost use Rattle.av_space.specs.Taps.{IsReadAt};
 ghost use Rattle.av_space.specs.inner.Sites.{tap_of, way_of};
 
 use crate::array::Array;
@@ -107,8 +104,8 @@ fn own_way(pipeline: &Option<Pipeline>) -> Way
 }
 
 impl Array<'_> {
-    ghost use Rattle.av_space.specs.Spots.{IsArray, IsSpot, IsSlotIn, IsSiteOf, system_of, handed_tap, IsLinkedBy, IsOriginBy};
-    ghost use Rattle.av_space.specs.inner.SpotTaps.{own_tap, IsSpotTap, IsReadThere, IsComputedRead, IsPortSite};
+    ghost use Rattle.av_space.specs.Spots.{IsArray, IsSpot, IsSlotIn, IsSiteOf, system_of, handed_tap, IsLinkedBy, IsOriginBy, HasPointBefore};
+    ghost use Rattle.av_space.specs.inner.SpotTaps.{own_tap, IsSpotTap, IsReadThere, IsReadOver, ReadsNothing, IsComputedRead, IsPortSite};
 
     // What a tap site of a piece reads at a computation.
     fn reading(&self, spot: &Spot<'_>, tap: &TapSite<'_>, slot: &Slot) -> Option<TapReading>
@@ -117,9 +114,8 @@ impl Array<'_> {
         requires tap { IsSpotTap self.now spot.now (tap_of tap.now) }
         requires slot { IsSlotIn self.now
             spot.now.cell spot.now.node spot.now.piece.now.domain slot.now }
-        ensures { MatchOption result (IsReadThere self.now spot.now (tap_of tap.now) slot.now
-            → ⊥) (λ r. IsReadThere self.now spot.now (tap_of tap.now) slot.now
-            × IsLinkedBy self.now spot.now slot.now.cycle (tap_of tap.now) r.producer r.delay) }
+        ensures { MatchOption result (IsReadThere self.now spot.now (tap_of tap.now) slot.now → ⊥)
+            (λ r. IsReadOver self.now spot.now (tap_of tap.now) slot.now r.producer r.delay) }
     {
         reading_at(self.timed, &self.layout, spot.node, tap, spot.piece, slot)
     }
@@ -156,10 +152,9 @@ impl Array<'_> {
             spot.now.cell spot.now.node spot.now.piece.now.domain slot.now }
         requires entered { IsReadAt site.now.pipeline
             (view_piece spot.now.piece.now) slot.now.point }
-        ensures { MatchOption result
-            ((place : ℕ) (y : PointSeen) → IsReadBy (view site.now.place.tree) slot.now.point place y → ⊥)
-            (λ r. IsReadThere self.now spot.now (own_tap (place_of site.now.place) site.now.pipeline) slot.now
-            × IsLinkedBy self.now spot.now slot.now.cycle (own_tap (place_of site.now.place) site.now.pipeline) r.producer r.delay) }
+        ensures { MatchOption result (ReadsNothing (view site.now.place.tree) slot.now.point) (λ r.
+            IsReadOver self.now spot.now
+            (own_tap (place_of site.now.place) site.now.pipeline) slot.now r.producer r.delay) }
     {
         let tap = TapSite {
             place: same(&site.place),
@@ -183,10 +178,9 @@ impl Array<'_> {
         requires pipeline { site.now.pipeline ≡ Some pipeline.now }
         requires slot { IsSlotIn self.now
             spot.now.cell spot.now.node spot.now.piece.now.domain slot.now }
-        ensures { MatchOption result
-            (IsTrue (has spot.now.piece.now.domain (before slot.now.point pipeline.now.direction)) → ⊥)
-            (λ r. IsTrue (has spot.now.piece.now.domain (before slot.now.point pipeline.now.direction))
-            × IsLinkedBy self.now spot.now slot.now.cycle (handed_tap (place_of site.now.place) pipeline.now) r.producer r.delay) }
+        ensures { MatchOption result (HasPointBefore spot.now slot.now pipeline.now → ⊥) (λ r.
+            HasPointBefore spot.now slot.now pipeline.now × IsLinkedBy self.now spot.now
+            slot.now.cycle (handed_tap (place_of site.now.place) pipeline.now) r.producer r.delay) }
     {
         let tap = TapSite {
             place: same(&site.place),
