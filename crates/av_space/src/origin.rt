@@ -19,7 +19,6 @@ use crate::tapping::same;
 use av_base::{Point, Word};
 use av_depend::is_computed_at;
 use av_flat::Tree;
-use std::marker::Model;
 
 /// Where a place of a piece reads in a cycle.
 #[derive(Clone, Copy, Debug, PartialEq, Eq)]
@@ -32,59 +31,43 @@ pub enum Origin {
     Number(Word),
 }
 
-/// A port whose reference has numbers that are not known to fit 32 bits.
-#[derive(Clone, Copy, Debug, PartialEq, Eq)]
-pub(crate) struct PortPlace {
-    pub(crate) cell: usize,
-    pub(crate) piece: usize,
-    pub(crate) site: usize,
-}
-
-impl Model for PortPlace {
-    ghost use Rattle.av_space.specs.declared.cells.InPort.{InPort};
-
-    ghost Value = { InPort };
-
-    ghost view = { λ p. record { cell = p.cell; piece = p.piece; site = p.site } };
-
-    ghost inverse = { λ p. record { cell = p.cell; piece = p.piece; site = p.site } };
-}
-
-// Whether the first port comes before the second.
-fn is_port_before(cells: &[Cell], a: &InPort, b: &PortPlace) -> bool
-    requires first { a.now.cell < length cells.now }
-    requires second { b.now.cell < length cells.now }
-    ensures { IsTrue result ↔ IsPortBefore cells.now a.now b.now }
+// Whether the port comes before that of a reference, by its piece and its number there, on a cell.
+fn is_port_before(cells: &[Cell], port: &InPort, cell: usize, piece: usize, site: usize) -> bool
+    requires first { port.now.cell < length cells.now }
+    requires second { cell < length cells.now }
+    ensures { IsTrue result
+        ↔ IsPortBefore cells.now port.now (record { cell = cell; piece = piece; site = site }) }
 {
-    let node = cells[a.cell as usize].node;
-    let other = cells[b.cell].node;
+    let node = cells[port.cell as usize].node;
+    let other = cells[cell].node;
     if node != other {
         return node < other;
     }
-    let piece = a.piece as usize;
-    if piece != b.piece {
-        return piece < b.piece;
+    let own_piece = port.piece as usize;
+    if own_piece != piece {
+        return own_piece < piece;
     }
-    let site = a.site as usize;
-    if site != b.site {
-        return site < b.site;
+    let own_site = port.site as usize;
+    if own_site != site {
+        return own_site < site;
     }
-    (a.cell as usize) < b.cell
+    (port.cell as usize) < cell
 }
 
-// The number of a port among the ports.
-fn port_at(cells: &[Cell], ports: &[InPort], port: &PortPlace) -> usize
+// The number of the port of a reference on a cell.
+fn port_at(cells: &[Cell], ports: &[InPort], cell: usize, piece: usize, site: usize) -> usize
     requires cells { All (λ p. p.cell < length cells.now) ports.now }
     requires order { AllPairs (IsPortBefore cells.now) ports.now }
-    requires cell { port.now.cell < length cells.now }
-    requires there { Contains ports.now port.now }
-    ensures { slice_get ports.now result ≡ Some port.now }
+    requires cell { cell < length cells.now }
+    requires there { Contains ports.now (record { cell = cell; piece = piece; site = site }) }
+    ensures { slice_get ports.now result
+        ≡ Some (record { cell = cell; piece = piece; site = site }) }
 {
     let mut low: usize = 0;
     let mut high = ports.len();
     while low < high {
         let middle = low + (high - low) / 2;
-        if is_port_before(cells, &ports[middle], port) {
+        if is_port_before(cells, &ports[middle], cell, piece, site) {
             low = middle + 1;
         } else {
             high = middle;
@@ -133,13 +116,14 @@ impl Array<'_> {
             (record { cell = spot.now.cell; piece = spot.now.number; site = site.now.place.site }) }
     {
         let place = &site.place;
-        let port = PortPlace {
-            cell: spot.cell,
-            piece: spot.number,
-            site: place.site,
-        };
         let cells = self.layout.cells.as_slice();
-        port_at(cells, self.cells.inputs.as_slice(), &port)
+        port_at(
+            cells,
+            self.cells.inputs.as_slice(),
+            spot.cell,
+            spot.number,
+            place.site,
+        )
     }
 
     // Where a place of a computed variable reads itself: over a link, where it reads.
