@@ -111,7 +111,9 @@ pub(crate) fn completed(vector: &[i64], pivot: &Pivot) -> Square
     }
 }
 
-// A cell of the inverse beside one position.
+// A cell of the inverse beside one position. The matrix sends x to y, where y[0] is the sum of vector[k] * x[k] over all k and the
+// other entries of y are those of x but x[p], in order. So x[p] is vector[p], which is 1 or -1, times (y[0] - the sum of vector[k] * x[k]
+// over these).
 fn inverse_beside_one(vector: &[i64], p: usize, row: usize, index: usize) -> i64
     requires few { length vector.now ≤ 4 }
     requires small { AtMost 4 vector.now }
@@ -130,7 +132,7 @@ fn inverse_beside_one(vector: &[i64], p: usize, row: usize, index: usize) -> i64
     }
 }
 
-// A cell of the row that solves for one of two entries.
+// A cell of the row that solves for one of two entries, as head * (y[0] - the sum of vector[k] * x[k] over the other k) + second * y[1].
 fn solved(vector: &[i64], p: usize, r: usize, head: i64, second: i64, index: usize) -> i64
     requires few { length vector.now ≤ 4 }
     requires small { AtMost 4 vector.now }
@@ -148,7 +150,7 @@ fn solved(vector: &[i64], p: usize, r: usize, head: i64, second: i64, index: usi
     }
 }
 
-// The determinant of the block of two numbers over their signs.
+// The determinant of the block of two numbers over their signs. Of the entries at a pivot it is 1 or -1, so that it is its own inverse.
 fn determinant(a: i64, b: i64) -> i64
     requires first { unsigned_abs a ≤ 4 }
     requires second { unsigned_abs b ≤ 4 }
@@ -169,7 +171,10 @@ fn turned(a: i64, b: i64, x: i64) -> i64
     product(determinant(a, b), x)
 }
 
-// A cell of the inverse beside two positions.
+// A cell of the inverse beside two positions, p and q, with the entries a and b there. Where x goes to y, t is what y[0] leaves over
+// the sum of vector[k] * x[k] over the other k, whose x[k] stand in y from y[2] on. Then a * x[p] + b * x[q] = t, and
+// sign(a) * x[p] + sign(b) * x[q] = y[1]. With the determinant d of these two equations, x[p] = d * (sign(b) * t - b * y[1]), and
+// x[q] = d * (a * y[1] - sign(a) * t).
 fn inverse_beside_two(vector: &[i64], p: usize, r: usize, row: usize, index: usize) -> i64
     requires few { length vector.now ≤ 4 }
     requires small { AtMost 4 vector.now }

@@ -2,20 +2,15 @@
 
 ghost use Rattle.std.specs.Prelude.{◌≡◌, ◌≤◌, ◌<◌, ◌⊎◌, ◌^◌, pos, ◌+ℤ◌, ◌<ℤ◌, unsigned_abs, length, All, IfOk};
 ghost use Rattle.std.proofs.Math.IntN.{neg_ℤ};
-ghost use Rattle.av_flat.specs.Trees.{view_system};
-ghost use Rattle.av_flat.specs.Chained.{IsChained};
-ghost use Rattle.av_flat.specs.Proper.{IsProper};
-ghost use Rattle.av_depend.specs.Edges.{AreEdgesOf};
 ghost use Rattle.av_sched.specs.Choices.{AreLinearParts};
 ghost use Rattle.av_sched.specs.Witnesses.{IsWitness};
-ghost use Rattle.av_best.specs.Least.{all_nodes};
 ghost use Rattle.av_best.specs.inner.Spans.{AreSpanned, IsLeastAbove, AreLows, AreSmallSpans};
 ghost use Rattle.av_best.specs.inner.Joint.{IsBounded};
+ghost use Rattle.av_best.specs.inner.SearchSpaces.{system_of, IsSearchSpace};
 
+use crate::space::SearchSpace;
 use crate::span::PartSpan;
 use av_base::{Memory, Point};
-use av_depend::Edge;
-use av_flat::{Flat, Reach};
 use av_sched::{Scratch, Witness, raise_to_least, witness_arcs};
 
 // The number of cycles up to the last one of a node.
@@ -68,28 +63,28 @@ pub(crate) fn set_starts(
 /// No schedule with these parts for the first nodes is shorter; None where there is no schedule with them. It is judged by the
 /// places of the pool alone.
 pub(crate) fn bound(
-    _flat: &Flat,
-    edges: &[Edge],
-    _reach: Reach,
-    nodes: &[u32],
+    space: &SearchSpace<'_>,
     level: usize,
     linear: &[Point],
     spans: &[PartSpan],
     pool: &[Witness],
     scratch: &mut Scratch,
 ) -> Result<Option<u64>, Memory>
-    requires chained { IsChained (view_system _flat.now) }
-    requires proper { IsProper (view_system _flat.now) }
-    requires edges { AreEdgesOf (view_system _flat.now) edges.now }
-    requires nodes { nodes.now ≡ all_nodes (view_system _flat.now) }
-    requires few { length nodes.now ≤ 1073741824 }
-    requires level { level ≤ length nodes.now }
-    requires linear { AreLinearParts (view_system _flat.now) _reach.size linear.now }
-    requires spans { AreSpanned (view_system _flat.now) level linear.now spans.now }
-    requires pool { All (IsWitness edges.now nodes.now) pool.now }
-    ensures { IfOk result (IsBounded (view_system _flat.now) _reach.size level linear.now) }
+    requires space { IsSearchSpace space.now }
+    requires level { level ≤ length space.now.nodes.now }
+    requires linear { AreLinearParts (system_of space.now) space.now.reach.size linear.now }
+    requires spans { AreSpanned (system_of space.now) level linear.now spans.now }
+    requires pool { All (IsWitness space.now.edges.now space.now.nodes.now) pool.now }
+    ensures { IfOk result (IsBounded (system_of space.now) space.now.reach.size level linear.now) }
 {
-    witness_arcs(edges, nodes, level, linear, pool, &mut scratch.arcs)?;
+    witness_arcs(
+        space.edges,
+        space.nodes,
+        level,
+        linear,
+        pool,
+        &mut scratch.arcs,
+    )?;
     set_starts(spans, level, &mut scratch.off)?;
     if !raise_to_least(&scratch.arcs, &mut scratch.off, &mut scratch.old)? {
         return Ok(None);

@@ -13,6 +13,7 @@ ghost use Rattle.av_best.specs.declared.fault.BestFault.TheVariants as fault;
 use crate::best::Best;
 use crate::fault::BestFault;
 use crate::joint::{all_nodes, joint_number};
+use crate::space::{Estimate, Pool, SearchSpace};
 use crate::span::{PartSpan, spans_of};
 use crate::stuck::fault_of;
 use crate::walk::walk;
@@ -53,27 +54,34 @@ fn best_of_all(
     let table = spans_of(alloc, flat, reach, nodes, plan.lists.as_slice())?;
     let mut linear = first_parts(alloc, flat, reach)?;
     let mut spans = blank_spans(alloc, nodes.len())?;
-    let mut pool = Vec::new(alloc);
-    let mut scratch = Scratch {
-        arcs: Vec::new(alloc),
-        off: Vec::new(alloc),
-        old: Vec::new(alloc),
+    let mut pool = Pool {
+        witnesses: Vec::new(alloc),
+        scratch: Scratch {
+            arcs: Vec::new(alloc),
+            off: Vec::new(alloc),
+            old: Vec::new(alloc),
+        },
     };
-    walk(
-        alloc,
+    let space = SearchSpace {
         flat,
         edges,
         reach,
         nodes,
-        &plan,
-        table.as_slice(),
+        plan: &plan,
+        table: table.as_slice(),
+    };
+    let nothing = Estimate {
+        spent: Price { left: 0, size: 0 },
+        cycles: 0,
+    };
+    walk(
+        alloc,
+        &space,
         0,
-        Price { left: 0, size: 0 },
-        0,
+        nothing,
         &mut linear,
         &mut spans,
         &mut pool,
-        &mut scratch,
         None,
     )
 }

@@ -2,49 +2,40 @@
 //! schedule, or none that comes before the best one so far.
 
 ghost use Rattle.std.specs.Prelude.{◌≡◌, ◌≤◌, ◌<◌, ◌↔◌, length, take, drop, All, IfOk, IsTrue};
-ghost use Rattle.av_flat.specs.Trees.{view_system};
-ghost use Rattle.av_flat.specs.Nodes.{nodes as nodes_of};
-ghost use Rattle.av_flat.specs.Chained.{IsChained};
-ghost use Rattle.av_flat.specs.Proper.{IsProper};
-ghost use Rattle.av_depend.specs.Edges.{AreEdgesOf};
 ghost use Rattle.av_sched.specs.Choices.{AreLinearParts};
 ghost use Rattle.av_sched.specs.Order.{cost, IsLess};
-ghost use Rattle.av_sched.specs.Parts.{AreAllParts};
 ghost use Rattle.av_sched.specs.Witnesses.{IsWitness};
-ghost use Rattle.av_sched.specs.Prices.{IsSpent, IsFloor, ArePricesTo, AreFloorsTo};
-ghost use Rattle.av_best.specs.Least.{all_nodes};
-ghost use Rattle.av_best.specs.inner.Spans.{AreSpanned, AreSpansTo};
+ghost use Rattle.av_sched.specs.Prices.{IsSpent, IsFloor};
+ghost use Rattle.av_best.specs.inner.Spans.{AreSpanned};
 ghost use Rattle.av_best.specs.inner.Joint.{IsChosen, IsSound, IsAhead, IsBarred, IsBound, HasWalked};
+ghost use Rattle.av_best.specs.inner.SearchSpaces.{system_of, IsSearchSpace};
 
 use crate::best::Best;
 use crate::bound::{bound, least_above, set_starts};
 use crate::learn::learn;
+use crate::space::{Estimate, Pool, SearchSpace};
 use crate::span::PartSpan;
-use av_base::{List, Memory, Point};
-use av_depend::{Edge, copy_point};
-use av_flat::{Flat, Reach};
+use av_base::{Memory, Point};
+use av_depend::copy_point;
 use av_sched::{
-    Price, Scratch, SearchPlan, Witness, arcs_of, at_least, copy_points, is_above, is_earlier,
-    raise_to_least, with_more,
+    Price, arcs_of, at_least, copy_points, is_above, is_earlier, raise_to_least, with_more,
 };
 use std::alloc::Global;
 
 // Whether the linear parts come before those of the best choice.
 fn is_cheaper(
     alloc: Global,
-    _flat: &Flat,
-    _reach: Reach,
-    nodes: &[u32],
+    space: &SearchSpace<'_>,
     linear: &[Point],
     spent: Price,
     best: &Best,
 ) -> Result<bool, Memory>
-    requires nodes { nodes.now ≡ all_nodes (view_system _flat.now) }
-    requires linear { AreLinearParts (view_system _flat.now) _reach.size linear.now }
-    requires spent { IsSpent (view_system _flat.now) linear.now nodes.now spent }
-    requires best { IsChosen (view_system _flat.now) _reach.size best.now }
-    ensures { IfOk result (λ b. IsTrue b ↔ IsLess (cost (view_system _flat.now)
-        nodes.now linear.now) (cost (view_system _flat.now) nodes.now best.now.parts.items)) }
+    requires space { IsSearchSpace space.now }
+    requires linear { AreLinearParts (system_of space.now) space.now.reach.size linear.now }
+    requires spent { IsSpent (system_of space.now) linear.now space.now.nodes.now spent }
+    requires best { IsChosen (system_of space.now) space.now.reach.size best.now }
+    ensures { IfOk result (λ b. IsTrue b ↔ IsLess (cost (system_of space.now) space.now.nodes.now
+        linear.now) (cost (system_of space.now) space.now.nodes.now best.now.parts.items)) }
 {
     if spent.left != best.price.left {
         return Ok(spent.left < best.price.left);
@@ -52,26 +43,24 @@ fn is_cheaper(
     if spent.size != best.price.size {
         return Ok(spent.size < best.price.size);
     }
-    is_earlier(alloc, nodes, linear, &best.parts)
+    is_earlier(alloc, space.nodes, linear, &best.parts)
 }
 
 // Whether a choice of this length comes before the best one so far.
 fn is_better(
     alloc: Global,
-    flat: &Flat,
-    reach: Reach,
-    nodes: &[u32],
+    space: &SearchSpace<'_>,
     linear: &[Point],
     spent: Price,
     cycles: u64,
     best: &Option<Best>,
 ) -> Result<bool, Memory>
-    requires nodes { nodes.now ≡ all_nodes (view_system flat.now) }
-    requires linear { AreLinearParts (view_system flat.now) reach.size linear.now }
-    requires spent { IsSpent (view_system flat.now) linear.now nodes.now spent }
-    requires best { IsSound (view_system flat.now) reach.size best.now }
+    requires space { IsSearchSpace space.now }
+    requires linear { AreLinearParts (system_of space.now) space.now.reach.size linear.now }
+    requires spent { IsSpent (system_of space.now) linear.now space.now.nodes.now spent }
+    requires best { IsSound (system_of space.now) space.now.reach.size best.now }
     ensures { IfOk result (λ b. IsTrue b
-        ↔ IsAhead (view_system flat.now) cycles linear.now best.now) }
+        ↔ IsAhead (system_of space.now) cycles linear.now best.now) }
 {
     match best {
         None => Ok(true),
@@ -79,16 +68,14 @@ fn is_better(
             if cycles != found.cycles {
                 return Ok(cycles < found.cycles);
             }
-            is_cheaper(alloc, flat, reach, nodes, linear, spent, found)
+            is_cheaper(alloc, space, linear, spent, found)
         }
     }
 }
 
 // Whether the choices that have these parts for the first nodes, none of which is shorter than the bound, can be left out.
 fn is_barred(
-    _flat: &Flat,
-    _reach: Reach,
-    _nodes: &[u32],
+    _space: &SearchSpace<'_>,
     _level: usize,
     _linear: &[Point],
     cycles: u64,
@@ -96,14 +83,17 @@ fn is_barred(
     rest: Price,
     best: &Option<Best>,
 ) -> bool
-    requires nodes { _nodes.now ≡ all_nodes (view_system _flat.now) }
-    requires level { _level ≤ length _nodes.now }
-    requires bound { IsBound (view_system _flat.now) _reach.size _level _linear.now cycles }
-    requires spent { IsSpent (view_system _flat.now) _linear.now (take _level _nodes.now) spent }
-    requires rest { IsFloor (view_system _flat.now) _reach.size (drop _level _nodes.now) rest }
-    requires best { IsSound (view_system _flat.now) _reach.size best.now }
+    requires space { IsSearchSpace _space.now }
+    requires level { _level ≤ length _space.now.nodes.now }
+    requires bound { IsBound (system_of _space.now)
+        _space.now.reach.size _level _linear.now cycles }
+    requires spent { IsSpent (system_of _space.now) _linear.now
+        (take _level _space.now.nodes.now) spent }
+    requires rest { IsFloor (system_of _space.now) _space.now.reach.size
+        (drop _level _space.now.nodes.now) rest }
+    requires best { IsSound (system_of _space.now) _space.now.reach.size best.now }
     ensures { IsTrue result
-        → IsBarred (view_system _flat.now) _reach.size _level _linear.now best.now }
+        → IsBarred (system_of _space.now) _space.now.reach.size _level _linear.now best.now }
 {
     let Some(found) = best else {
         return false;
@@ -117,47 +107,58 @@ fn is_barred(
 // The best choice after one that has all parts.
 fn leaf(
     alloc: Global,
-    flat: &Flat,
-    edges: &[Edge],
-    reach: Reach,
-    nodes: &[u32],
+    space: &SearchSpace<'_>,
+    estimate: Estimate,
     linear: &[Point],
     spans: &[PartSpan],
-    spent: Price,
-    cycles: u64,
-    pool: &mut Vec<Witness>,
-    scratch: &mut Scratch,
+    pool: &mut Pool,
     best: Option<Best>,
 ) -> Result<Option<Best>, Memory>
-    requires chained { IsChained (view_system flat.now) }
-    requires proper { IsProper (view_system flat.now) }
-    requires edges { AreEdgesOf (view_system flat.now) edges.now }
-    requires nodes { nodes.now ≡ all_nodes (view_system flat.now) }
-    requires few { length nodes.now ≤ 1073741824 }
-    requires linear { AreLinearParts (view_system flat.now) reach.size linear.now }
-    requires spans { AreSpanned (view_system flat.now) (length nodes.now) linear.now spans.now }
-    requires spent { IsSpent (view_system flat.now) linear.now nodes.now spent }
-    requires bound { IsBound (view_system flat.now) reach.size
-        (length nodes.now) linear.now cycles }
-    requires pool { All (IsWitness edges.now nodes.now) pool.old.items }
-    requires best { IsSound (view_system flat.now) reach.size best }
-    ensures walked { IfOk result
-        (HasWalked (view_system flat.now) reach.size (length nodes.now) linear.now best) }
-    ensures pool { IfOk result (λ new. All (IsWitness edges.now nodes.now) pool.new.items) }
+    requires space { IsSearchSpace space.now }
+    requires linear { AreLinearParts (system_of space.now) space.now.reach.size linear.now }
+    requires spans { AreSpanned (system_of space.now)
+        (length space.now.nodes.now) linear.now spans.now }
+    requires spent { IsSpent (system_of space.now) linear.now space.now.nodes.now estimate.spent }
+    requires bound { IsBound (system_of space.now) space.now.reach.size
+        (length space.now.nodes.now) linear.now estimate.cycles }
+    requires pool { All (IsWitness space.now.edges.now space.now.nodes.now)
+        pool.old.witnesses.items }
+    requires best { IsSound (system_of space.now) space.now.reach.size best }
+    ensures walked { IfOk result (HasWalked
+        (system_of space.now) space.now.reach.size (length space.now.nodes.now) linear.now best) }
+    ensures pool { IfOk result (λ new.
+        All (IsWitness space.now.edges.now space.now.nodes.now) pool.new.witnesses.items) }
 {
-    if !is_better(alloc, flat, reach, nodes, linear, spent, cycles, &best)? {
+    let Estimate { spent, cycles } = estimate;
+    if !is_better(alloc, space, linear, spent, cycles, &best)? {
         return Ok(best);
     }
-    let arcs = arcs_of(alloc, edges, linear)?;
+    let arcs = arcs_of(alloc, space.edges, linear)?;
     let mut offsets = Vec::new(alloc);
-    set_starts(spans, nodes.len(), &mut offsets)?;
-    if !raise_to_least(&arcs, &mut offsets, &mut scratch.old)? {
-        learn(alloc, flat, edges, nodes, linear, &arcs, pool)?;
+    set_starts(spans, space.nodes.len(), &mut offsets)?;
+    if !raise_to_least(&arcs, &mut offsets, &mut pool.scratch.old)? {
+        learn(
+            alloc,
+            space.flat,
+            space.edges,
+            space.nodes,
+            linear,
+            &arcs,
+            &mut pool.witnesses,
+        )?;
         return Ok(best);
     }
-    let cycles = least_above(&offsets, spans, nodes.len());
-    if !is_better(alloc, flat, reach, nodes, linear, spent, cycles, &best)? {
-        learn(alloc, flat, edges, nodes, linear, &arcs, pool)?;
+    let cycles = least_above(&offsets, spans, space.nodes.len());
+    if !is_better(alloc, space, linear, spent, cycles, &best)? {
+        learn(
+            alloc,
+            space.flat,
+            space.edges,
+            space.nodes,
+            linear,
+            &arcs,
+            &mut pool.witnesses,
+        )?;
         return Ok(best);
     }
     Ok(Some(Best {
@@ -172,77 +173,48 @@ fn leaf(
 #[cycle(walk)]
 pub(crate) fn walk(
     alloc: Global,
-    flat: &Flat,
-    edges: &[Edge],
-    reach: Reach,
-    nodes: &[u32],
-    plan: &SearchPlan,
-    table: &[List<PartSpan>],
+    space: &SearchSpace<'_>,
     level: usize,
-    spent: Price,
-    cycles: u64,
+    estimate: Estimate,
     linear: &mut [Point],
     spans: &mut [PartSpan],
-    pool: &mut Vec<Witness>,
-    scratch: &mut Scratch,
+    pool: &mut Pool,
     best: Option<Best>,
 ) -> Result<Option<Best>, Memory>
-    requires chained { IsChained (view_system flat.now) }
-    requires proper { IsProper (view_system flat.now) }
-    requires edges { AreEdgesOf (view_system flat.now) edges.now }
-    requires nodes { nodes.now ≡ all_nodes (view_system flat.now) }
-    requires few { length nodes.now ≤ 1073741824 }
-    requires lists { AreAllParts (view_system flat.now) reach.size nodes.now plan.now.lists }
-    requires prices { ArePricesTo (view_system flat.now) nodes.now
-        (length nodes.now) plan.now.lists plan.now.prices }
-    requires floors { AreFloorsTo (view_system flat.now) reach.size nodes.now
-        (length nodes.now) plan.now.floors.items }
-    requires table { AreSpansTo (view_system flat.now) (length nodes.now) plan.now.lists table.now }
-    requires level { level ≤ length nodes.now }
-    requires linear { AreLinearParts (view_system flat.now) reach.size linear.old }
-    requires spanned { AreSpanned (view_system flat.now) level linear.old spans.old }
-    requires wide { length spans.old ≡ length nodes.now }
-    requires spent { IsSpent (view_system flat.now) linear.old (take level nodes.now) spent }
-    requires bound { IsBound (view_system flat.now) reach.size level linear.old cycles }
-    requires pool { All (IsWitness edges.now nodes.now) pool.old.items }
-    requires best { IsSound (view_system flat.now) reach.size best }
+    requires space { IsSearchSpace space.now }
+    requires level { level ≤ length space.now.nodes.now }
+    requires linear { AreLinearParts (system_of space.now) space.now.reach.size linear.old }
+    requires spanned { AreSpanned (system_of space.now) level linear.old spans.old }
+    requires wide { length spans.old ≡ length space.now.nodes.now }
+    requires spent { IsSpent (system_of space.now) linear.old
+        (take level space.now.nodes.now) estimate.spent }
+    requires bound { IsBound (system_of space.now)
+        space.now.reach.size level linear.old estimate.cycles }
+    requires pool { All (IsWitness space.now.edges.now space.now.nodes.now)
+        pool.old.witnesses.items }
+    requires best { IsSound (system_of space.now) space.now.reach.size best }
     ensures walked { IfOk result
-        (HasWalked (view_system flat.now) reach.size level linear.old best) }
+        (HasWalked (system_of space.now) space.now.reach.size level linear.old best) }
     ensures linear { IfOk result (λ new. linear.new ≡ linear.old) }
     ensures spanned { IfOk result (λ new.
-        AreSpanned (view_system flat.now) level linear.old spans.new) }
-    ensures pool { IfOk result (λ new. All (IsWitness edges.now nodes.now) pool.new.items) }
+        AreSpanned (system_of space.now) level linear.old spans.new) }
+    ensures pool { IfOk result (λ new.
+        All (IsWitness space.now.edges.now space.now.nodes.now) pool.new.witnesses.items) }
 {
-    if level == nodes.len() {
-        return leaf(
-            alloc, flat, edges, reach, nodes, linear, spans, spent, cycles, pool, scratch, best,
-        );
+    if level == space.nodes.len() {
+        return leaf(alloc, space, estimate, linear, spans, pool, best);
     }
     let before = copy_point(&linear[level]);
-    let parts = plan.lists.as_slice()[level].as_slice();
-    let prices = plan.prices.as_slice()[level].as_slice();
+    let parts = space.plan.lists.as_slice()[level].as_slice();
+    let prices = space.plan.prices.as_slice()[level].as_slice();
+    let table = space.table;
     let reaches = table[level].as_slice();
     let mut best = best;
     for k in 0..parts.len() {
         linear[level] = copy_point(&parts[k]);
         spans[level] = reaches[k];
-        let own = with_more(spent, prices[k]);
-        best = walk_unless_barred(
-            alloc,
-            flat,
-            edges,
-            reach,
-            nodes,
-            plan,
-            table,
-            level + 1,
-            own,
-            linear,
-            spans,
-            pool,
-            scratch,
-            best,
-        )?;
+        let own = with_more(estimate.spent, prices[k]);
+        best = walk_unless_barred(alloc, space, level + 1, own, linear, spans, pool, best)?;
     }
     linear[level] = before;
     Ok(best)
@@ -252,59 +224,47 @@ pub(crate) fn walk(
 #[cycle(walk)]
 fn walk_unless_barred(
     alloc: Global,
-    flat: &Flat,
-    edges: &[Edge],
-    reach: Reach,
-    nodes: &[u32],
-    plan: &SearchPlan,
-    table: &[List<PartSpan>],
+    space: &SearchSpace<'_>,
     level: usize,
     spent: Price,
     linear: &mut [Point],
     spans: &mut [PartSpan],
-    pool: &mut Vec<Witness>,
-    scratch: &mut Scratch,
+    pool: &mut Pool,
     best: Option<Best>,
 ) -> Result<Option<Best>, Memory>
-    requires chained { IsChained (view_system flat.now) }
-    requires proper { IsProper (view_system flat.now) }
-    requires edges { AreEdgesOf (view_system flat.now) edges.now }
-    requires nodes { nodes.now ≡ all_nodes (view_system flat.now) }
-    requires few { length nodes.now ≤ 1073741824 }
-    requires lists { AreAllParts (view_system flat.now) reach.size nodes.now plan.now.lists }
-    requires prices { ArePricesTo (view_system flat.now) nodes.now
-        (length nodes.now) plan.now.lists plan.now.prices }
-    requires floors { AreFloorsTo (view_system flat.now) reach.size nodes.now
-        (length nodes.now) plan.now.floors.items }
-    requires table { AreSpansTo (view_system flat.now) (length nodes.now) plan.now.lists table.now }
-    requires level { level ≤ length nodes.now }
-    requires linear { AreLinearParts (view_system flat.now) reach.size linear.old }
-    requires spanned { AreSpanned (view_system flat.now) level linear.old spans.old }
-    requires wide { length spans.old ≡ length nodes.now }
-    requires spent { IsSpent (view_system flat.now) linear.old (take level nodes.now) spent }
-    requires pool { All (IsWitness edges.now nodes.now) pool.old.items }
-    requires best { IsSound (view_system flat.now) reach.size best }
+    requires space { IsSearchSpace space.now }
+    requires level { level ≤ length space.now.nodes.now }
+    requires linear { AreLinearParts (system_of space.now) space.now.reach.size linear.old }
+    requires spanned { AreSpanned (system_of space.now) level linear.old spans.old }
+    requires wide { length spans.old ≡ length space.now.nodes.now }
+    requires spent { IsSpent (system_of space.now) linear.old
+        (take level space.now.nodes.now) spent }
+    requires pool { All (IsWitness space.now.edges.now space.now.nodes.now)
+        pool.old.witnesses.items }
+    requires best { IsSound (system_of space.now) space.now.reach.size best }
     ensures walked { IfOk result
-        (HasWalked (view_system flat.now) reach.size level linear.old best) }
+        (HasWalked (system_of space.now) space.now.reach.size level linear.old best) }
     ensures linear { IfOk result (λ new. linear.new ≡ linear.old) }
     ensures spanned { IfOk result (λ new.
-        AreSpanned (view_system flat.now) level linear.old spans.new) }
-    ensures pool { IfOk result (λ new. All (IsWitness edges.now nodes.now) pool.new.items) }
+        AreSpanned (system_of space.now) level linear.old spans.new) }
+    ensures pool { IfOk result (λ new.
+        All (IsWitness space.now.edges.now space.now.nodes.now) pool.new.witnesses.items) }
 {
     let Some(cycles) = bound(
-        flat, edges, reach, nodes, level, linear, spans, pool, scratch,
+        space,
+        level,
+        linear,
+        spans,
+        &pool.witnesses,
+        &mut pool.scratch,
     )?
     else {
         return Ok(best);
     };
-    let rest = plan.floors[nodes.len() - level];
-    if is_barred(
-        flat, reach, nodes, level, linear, cycles, spent, rest, &best,
-    ) {
+    let rest = space.plan.floors[space.nodes.len() - level];
+    if is_barred(space, level, linear, cycles, spent, rest, &best) {
         return Ok(best);
     }
-    walk(
-        alloc, flat, edges, reach, nodes, plan, table, level, spent, cycles, linear, spans, pool,
-        scratch, best,
-    )
+    let estimate = Estimate { spent, cycles };
+    walk(alloc, space, level, estimate, linear, spans, pool, best)
 }

@@ -3,15 +3,13 @@
 ghost use Rattle.std.specs.Prelude.{◌≡◌, ◌<◌, ◌≤◌, ◌+◌, ◌++◌, codes, length, IsErr, OnOk, OnErr};
 ghost use Rattle.av_base.specs.Outside.{Adds, AddsPrefix, HasRisen};
 ghost use Rattle.av_flat.specs.Trees.{view_system, view_variable};
-ghost use Rattle.av_net.specs.Clocked.{Stream as Ports, Run as Clocked, IsRun};
 ghost use Rattle.av_net.specs.Designs.{IsSoundPlan};
 ghost use Rattle.av_net.specs.PlanTexts.{text2};
 ghost use Rattle.av_data.specs.Inputs.{words_of};
 ghost use Rattle.av_flat.specs.OneSolution.{AreInputs};
 ghost use Rattle.av_wave.specs.Clocking.{AreLeft};
-ghost use Rattle.av_commands.specs.inner.Clocking.{IsPrepared};
+ghost use Rattle.av_commands.specs.inner.Clocking.{IsPrepared, OfEachRun};
 ghost use Rattle.av_commands.specs.Runs.{results};
-ghost use Rattle.av_wave.specs.Simulated.{IsStimulated, run_lines};
 ghost use Rattle.av_commands.specs.Written.{IsAnswered, PutsOneOf};
 ghost use Rattle.av_commands.specs.WithWords.{RefusesRunWith, GivesReportWith};
 ghost use Rattle.av_commands.specs.inner.Reported.{IsClockable, is_output_named, names_output, RefusesLines, IsReport, GivesReported};
@@ -239,11 +237,13 @@ fn write_trace<K: Sink>(
     requires prepared { IsPrepared compiled.now.design.module parts.old }
     requires left { AreLeft compiled.now.design.module.inputs
         stimulus.now.values 0 0 stimulus.now.values }
-    ensures added { OnOk result ((stream : Ports) (run : Clocked) → IsStimulated compiled.now.design.module stimulus.now stream → IsRun compiled.now.design.module stimulus.now.cycles stream run
-        → Adds (K.state sink.old).held (K.state sink.new).held (text2 compiled.now.plan ++ codes "%%\n" ++ run_lines compiled.now.design.module run.in_cycle stimulus.now.cycles)) }
+    ensures added { OnOk result
+        (OfEachRun compiled.now.design.module stimulus.now (λ lines. Adds (K.state sink.old).held
+        (K.state sink.new).held (text2 compiled.now.plan ++ codes "%%\n" ++ lines))) }
     ensures fault { IsErr result → HasRisen (K.state sink.old).faults (K.state sink.new).faults }
-    ensures front { OnErr result ((stream : Ports) (run : Clocked) → IsStimulated compiled.now.design.module stimulus.now stream → IsRun compiled.now.design.module stimulus.now.cycles stream run
-        → AddsPrefix (K.state sink.old).held (K.state sink.new).held (text2 compiled.now.plan ++ codes "%%\n" ++ run_lines compiled.now.design.module run.in_cycle stimulus.now.cycles)) }
+    ensures front { OnErr result (OfEachRun compiled.now.design.module stimulus.now
+        (λ lines. AddsPrefix (K.state sink.old).held
+        (K.state sink.new).held (text2 compiled.now.plan ++ codes "%%\n" ++ lines))) }
 {
     write_plan(&compiled.plan, sink)?;
     write_all(sink, MARK.as_bytes())?;

@@ -2,12 +2,10 @@
 
 ghost use Rattle.std.specs.Prelude.{◌≤◌, IfOk, OnOk, OnErr, IsErr};
 ghost use Rattle.av_base.specs.Outside.{Adds, AddsPrefix, HasRisen};
-ghost use Rattle.av_net.specs.Clocked.{Stream as Inputs, Run as Clocked, IsRun};
 ghost use Rattle.av_net.specs.Sound.{IsSound};
 ghost use Rattle.av_net.specs.declared.netlist.Module.{Module as Netlist};
-ghost use Rattle.av_wave.specs.Simulated.{run_lines, IsStimulated};
 ghost use Rattle.av_wave.specs.Clocking.{AreLeft};
-ghost use Rattle.av_commands.specs.inner.Clocking.{IsPrepared};
+ghost use Rattle.av_commands.specs.inner.Clocking.{IsPrepared, OfEachRun};
 
 use av_base::{List, Memory, Sink, WriteFault};
 use av_clock::Clock;
@@ -52,13 +50,11 @@ pub(crate) fn run<K: Sink>(
 ) -> Result<(), WriteFault>
     requires prepared { IsPrepared parts.old.clock.of parts.old }
     requires left { AreLeft parts.old.clock.of.inputs stimulus.now.values 0 0 stimulus.now.values }
-    ensures added { OnOk result ((stream : Inputs) (run : Clocked)
-        → IsStimulated parts.old.clock.of stimulus.now stream
-        → IsRun parts.old.clock.of stimulus.now.cycles stream run → Adds (K.state sink.old).held
-        (K.state sink.new).held (run_lines parts.old.clock.of run.in_cycle stimulus.now.cycles)) }
+    ensures added { OnOk result (OfEachRun parts.old.clock.of stimulus.now
+        (λ lines. Adds (K.state sink.old).held (K.state sink.new).held lines)) }
     ensures fault { IsErr result → HasRisen (K.state sink.old).faults (K.state sink.new).faults }
-    ensures front { OnErr result ((stream : Inputs) (run : Clocked) → IsStimulated parts.old.clock.of stimulus.now stream → IsRun parts.old.clock.of stimulus.now.cycles stream run
-        → AddsPrefix (K.state sink.old).held (K.state sink.new).held (run_lines parts.old.clock.of run.in_cycle stimulus.now.cycles)) }
+    ensures front { OnErr result (OfEachRun parts.old.clock.of stimulus.now
+        (λ lines. AddsPrefix (K.state sink.old).held (K.state sink.new).held lines)) }
     ensures later { (K.state sink.old).faults ≤ (K.state sink.new).faults }
 {
     let given = stimulus.values.as_slice();

@@ -6,7 +6,6 @@ ghost use Rattle.av_flat.specs.Chained.{IsChained};
 ghost use Rattle.av_flat.specs.Legal.{IsLegal};
 ghost use Rattle.av_flat.specs.Trees.{view_system};
 ghost use Rattle.av_flat.specs.OneSolution.{AreInputs};
-ghost use Rattle.av_net.specs.Clocked.{Stream as Ports, Run as Clocked, IsRun};
 ghost use Rattle.av_net.specs.Designs.{IsSoundPlan};
 ghost use Rattle.av_net.specs.Flat.{flat_module, flat_of};
 ghost use Rattle.av_net.specs.Presented.{HaveFittingWords};
@@ -19,11 +18,10 @@ ghost use Rattle.av_data.specs.Inputs.{words_of};
 ghost use Rattle.av_stream.specs.Periods.{HasPeriod};
 ghost use Rattle.av_stream.specs.Streams.{AreApartEach};
 ghost use Rattle.av_stream.specs.StreamTexts.{stream_text};
-ghost use Rattle.av_wave.specs.Simulated.{IsStimulated, run_lines};
 ghost use Rattle.av_wave.specs.Clocking.{AreLeft};
 ghost use Rattle.av_commands.specs.Refusals.{refusal_line};
 ghost use Rattle.av_commands.specs.Streams.{stream_cycles, cycles_reason, IsFirstBadSet, AreSpelled};
-ghost use Rattle.av_commands.specs.inner.Clocking.{IsPrepared};
+ghost use Rattle.av_commands.specs.inner.Clocking.{IsPrepared, OfEachRun};
 ghost use Rattle.av_commands.specs.WithWords.{RefusesStreamWith, GivesStreamWith};
 ghost use Rattle.av_commands.specs.inner.Streaming.{RefusesSets, GivesSets, IsStreamed, IsStreamOn};
 ghost use Rattle.av_commands.specs.Written.{PutsOneOf, IsAnswered, IsPut};
@@ -247,11 +245,13 @@ fn write_run<K: Sink>(
     requires prepared { IsPrepared (flat_module streamed.now.plan) parts.old }
     requires left { AreLeft (flat_module streamed.now.plan).inputs
         stimulus.now.values 0 0 stimulus.now.values }
-    ensures added { OnOk result ((stream : Ports) (run : Clocked) → IsStimulated (flat_module streamed.now.plan) stimulus.now stream → IsRun (flat_module streamed.now.plan) stimulus.now.cycles stream run
-        → Adds (K.state sink.old).held (K.state sink.new).held (stream_text streamed.now ++ codes "%%\n" ++ run_lines (flat_module streamed.now.plan) run.in_cycle stimulus.now.cycles)) }
+    ensures added { OnOk result (OfEachRun
+        (flat_module streamed.now.plan) stimulus.now (λ lines. Adds (K.state sink.old).held
+        (K.state sink.new).held (stream_text streamed.now ++ codes "%%\n" ++ lines))) }
     ensures fault { IsErr result → HasRisen (K.state sink.old).faults (K.state sink.new).faults }
-    ensures front { OnErr result ((stream : Ports) (run : Clocked) → IsStimulated (flat_module streamed.now.plan) stimulus.now stream → IsRun (flat_module streamed.now.plan) stimulus.now.cycles stream run
-        → AddsPrefix (K.state sink.old).held (K.state sink.new).held (stream_text streamed.now ++ codes "%%\n" ++ run_lines (flat_module streamed.now.plan) run.in_cycle stimulus.now.cycles)) }
+    ensures front { OnErr result (OfEachRun
+        (flat_module streamed.now.plan) stimulus.now (λ lines. AddsPrefix (K.state sink.old).held
+        (K.state sink.new).held (stream_text streamed.now ++ codes "%%\n" ++ lines))) }
 {
     write_stream(streamed, sink)?;
     write_all(sink, MARK.as_bytes())?;

@@ -1,3 +1,4 @@
 pub mod Forms
 pub mod Engine
 pub mod Order
+pub mod Taking

@@ -16,6 +16,7 @@ ghost use Rattle.av_clock.specs.Named.{named, AllFit};
 ghost use Rattle.av_lanes.specs.Seen.{lane};
 ghost use Rattle.av_lanes.specs.inner.Forms.{AreFormed};
 ghost use Rattle.av_lanes.specs.inner.Order.{AreMoves, AreTransfers, AreOrdered, HaveMoved};
+ghost use Rattle.av_lanes.specs.inner.Taking.{HaveWords, HaveTaken};
 
 use crate::forms::{Formed, word_formed};
 use crate::gates::{word_at, word_given, word_read};
@@ -173,8 +174,7 @@ fn take_due(
     requires due { length due.old ≡ length circuit.now.steps }
     requires taken { length taken.old ≡ length circuit.now.steps }
     requires next { length next.old ≡ length circuit.now.steps }
-    requires held { (k : ℕ) → k < 8 → (i : ℕ) (d : _) → i < length circuit.now.steps → IsClear due.old i
-        → named circuit.now (lane k words.now) (slice_index_or circuit.now.steps i d).register ≡ word_of (named circuit.now (lane k words.now)) (slice_index_or circuit.now.steps i d).next }
+    requires held { (k : ℕ) → k < 8 → HaveTaken circuit.now (lane k words.now) due.old }
     ensures count { result ≤ length circuit.now.steps }
     ensures due { length due.new ≡ length due.old }
     ensures within { (j : ℕ) → j < result → slice_index taken.new j < length circuit.now.steps }
@@ -221,8 +221,9 @@ fn store_taken(
     ensures fit { (k : ℕ) → k < 8 → AllFit circuit.now (lane k words.new) }
     ensures same { (k : ℕ) → k < 8 → ReadTheSame circuit.now
         (lane k words.old) (lane k words.new) stale.old stale.new due.old due.new }
-    ensures registers { (k : ℕ) → k < 8 → (word : ℕ → ℕ) → AreDue circuit.now (named circuit.now (lane k words.old)) word taken.now (lane k next.now) count
-        → (i : ℕ) (d : _) → i < length circuit.now.steps → named circuit.now (lane k words.new) (slice_index_or circuit.now.steps i d).register ≡ word i }
+    ensures registers { (k : ℕ) → k < 8 → (word : ℕ → ℕ) → AreDue circuit.now (named circuit.now
+        (lane k words.old)) word taken.now (lane k next.now) count
+        → HaveWords circuit.now (lane k words.new) word }
     ensures others { (k : ℕ) → k < 8
         → (name : Items ℕ) → (Contains (registers_of circuit.now.steps) name → ⊥)
         → named circuit.now (lane k words.new) name ≡ named circuit.now (lane k words.old) name }

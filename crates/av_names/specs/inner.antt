@@ -4,3 +4,4 @@ pub mod Sums
 pub mod Building
 pub mod ShortSums
 pub mod AtOption
+pub mod Repeating

@@ -1,16 +1,15 @@
 //! Quantities of the text against their limits.
 
-ghost use Rattle.std.specs.Prelude.{◌≡◌, Some, false, map, length, bytes_eq, option_map, IfOk};
+ghost use Rattle.std.specs.Prelude.{◌≡◌, Some, map, length, bytes_eq, option_map, IfOk};
 ghost use Rattle.std.specs.List.{flat_map};
 ghost use Rattle.std.specs.Map.{lookup};
 ghost use Rattle.av_tree.specs.Domains as domains;
 ghost use Rattle.av_tree.specs.Trees.{view, view_equation, view_system};
-ghost use Rattle.av_names.specs.Forms.{over};
 ghost use Rattle.av_names.specs.Found.{first_of};
 ghost use Rattle.av_names.specs.inner.AtOption.{at_option};
 ghost use Rattle.av_names.specs.Parts as list;
 ghost use Rattle.av_names.specs.Quantities as rules;
-ghost use Rattle.av_names.specs.inner.Seen.{part, names_at};
+ghost use Rattle.av_names.specs.inner.Seen.{part, parts_by};
 ghost use Rattle.av_names.specs.inner.Sums.{counted};
 
 use crate::index::{by_name, context};
@@ -154,9 +153,8 @@ fn nodes_of(
     table: &NameMap<'_, &Declaration>,
     equation: &Equation,
 ) -> Result<usize, Memory>
-    ensures { IfOk result (λ nodes. nodes ≡ length (list.parts_of false (over (domains.given_or
-        (names_at (option_map (λ d. d.now) (lookup (bytes_eq equation.now.name) table.now)))
-        equation.now.indices)) (view equation.now.right))) }
+    ensures { IfOk result (λ nodes.
+        nodes ≡ length (parts_by (lookup (bytes_eq equation.now.name) table.now) equation.now)) }
 {
     let mut parts = Vec::new(alloc);
     let names = context(table, equation);
@@ -172,8 +170,7 @@ fn nodes_of_equations(
 ) -> Result<Option<Counted>, Memory>
     ensures { IfOk result (λ first. option_map counted first
         ≡ first_of (λ c. c.place) (λ e. rules.exceeds 4096 (record {
-          number = length (list.parts_of false (over (domains.given_or (names_at (option_map
-              (λ d. d.now) (lookup (bytes_eq e.name) table.now))) e.indices)) (view e.right));
+          number = length (parts_by (lookup (bytes_eq e.name) table.now) e);
           place = e.place;
         })) equations.now) }
 {

@@ -4,11 +4,10 @@ ghost use Rattle.std.specs.Prelude.{◌≡◌, ◌||◌, [], ◌∷◌, map, IfO
 ghost use Rattle.av_tree.specs.Domains as domains;
 ghost use Rattle.av_tree.specs.Rows.{is_index};
 ghost use Rattle.av_tree.specs.Trees.{view, view_equation, view_system};
-ghost use Rattle.av_names.specs.Found as places;
-ghost use Rattle.av_names.specs.Found.{first_found};
 ghost use Rattle.av_names.specs.inner.AtOption.{at_option};
 ghost use Rattle.av_names.specs.Parts as list;
 ghost use Rattle.av_names.specs.Repetitions as repeats;
+ghost use Rattle.av_names.specs.inner.Repeating.{repeated_in_variables, repeated_in_equations, repeated_in_parts, repeated_in_lists};
 ghost use Rattle.av_names.specs.inner.Seen.{found, part, SameNames};
 
 use crate::found::{Found, sooner};
@@ -111,8 +110,8 @@ fn in_variables<'a>(
     sizes: &NameSet<'_>,
     variables: &[&'a Declaration],
 ) -> Result<Option<Found<'a>>, Memory>
-    ensures { IfOk result (λ first. option_map found first ≡ first_found
-        (λ d. repeats.repeated_index sizes.now (repeats.of_declaration d.now)) variables.now) }
+    ensures { IfOk result (λ first.
+        option_map found first ≡ repeated_in_variables sizes.now variables.now) }
 {
     let mut first = None;
     for variable in variables {
@@ -129,8 +128,8 @@ fn in_equations<'a>(
     sizes: &NameSet<'_>,
     equations: &'a [Equation],
 ) -> Result<Option<Found<'a>>, Memory>
-    ensures { IfOk result (λ first. option_map found first ≡ first_found (λ e. at_option
-        (repeats.repeated_index sizes.now) (repeats.of_equation (view_equation e))) equations.now) }
+    ensures { IfOk result (λ first.
+        option_map found first ≡ repeated_in_equations sizes.now equations.now) }
 {
     let mut first = None;
     for equation in equations {
@@ -160,8 +159,8 @@ fn in_parts<'a>(
     sizes: &NameSet<'_>,
     parts: &[Part<'a>],
 ) -> Result<Option<Found<'a>>, Memory>
-    ensures { IfOk result (λ first. option_map found first ≡ first_found
-        (λ p. at_option (repeats.repeated_index sizes.now) (repeats.of_part (part p))) parts.now) }
+    ensures { IfOk result (λ first.
+        option_map found first ≡ repeated_in_parts sizes.now parts.now) }
 {
     let mut first = None;
     for part in parts {
@@ -207,7 +206,8 @@ fn in_lists<'a>(
     variables: &[&'a Declaration],
     parts: &[Part<'a>],
 ) -> Result<Option<Found<'a>>, Memory>
-    ensures { IfOk result (λ first. option_map found first ≡ places.sooner (λ f. f.place) (places.sooner (λ f. f.place) (first_found (λ d. repeats.repeated_index sizes.now (repeats.of_declaration d.now)) variables.now) (first_found (λ e. at_option (repeats.repeated_index sizes.now) (repeats.of_equation (view_equation e))) equations.now)) (first_found (λ p. at_option (repeats.repeated_index sizes.now) (repeats.of_part (part p))) parts.now)) }
+    ensures { IfOk result (λ first. option_map found first
+        ≡ repeated_in_lists sizes.now variables.now equations.now parts.now) }
 {
     let domain = in_variables(alloc, sizes, variables)?;
     let equation = in_equations(alloc, sizes, equations)?;

@@ -1,15 +1,14 @@
 //! Names that nothing declares.
 
-ghost use Rattle.std.specs.Prelude.{◌≡◌, false, [], map, not, bytes_eq, option_map, IfOk};
+ghost use Rattle.std.specs.Prelude.{◌≡◌, [], map, not, bytes_eq, option_map, IfOk};
 ghost use Rattle.std.specs.Map.{lookup};
 ghost use Rattle.av_tree.specs.Domains as domains;
 ghost use Rattle.av_tree.specs.Rows.{is_index};
 ghost use Rattle.av_tree.specs.Trees.{view, view_system};
-ghost use Rattle.av_names.specs.Forms.{over};
 ghost use Rattle.av_names.specs.Found as finds;
 ghost use Rattle.av_names.specs.Found.{first_found};
 ghost use Rattle.av_names.specs.Parts as list;
-ghost use Rattle.av_names.specs.inner.Seen.{found, part, names_at, SameNames};
+ghost use Rattle.av_names.specs.inner.Seen.{found, part, parts_by, SameNames};
 ghost use Rattle.av_names.specs.Unknowns as rules;
 ghost use Rattle.av_names.specs.Written.{written_at, all_written};
 
@@ -95,7 +94,9 @@ fn unknown_in_right<'a>(
     table: &NameMap<'_, &Declaration>,
     equation: &'a Equation,
 ) -> Result<Option<Found<'a>>, Memory>
-    ensures { IfOk result (λ first. option_map found first ≡ first_found (λ p. rules.unknown_written sizes.now (written_at p)) (list.parts_of false (over (domains.given_or (names_at (option_map (λ d. d.now) (lookup (bytes_eq equation.now.name) table.now))) equation.now.indices)) (view equation.now.right))) }
+    ensures { IfOk result (λ first.
+        option_map found first ≡ first_found (λ p. rules.unknown_written sizes.now (written_at p))
+        (parts_by (lookup (bytes_eq equation.now.name) table.now) equation.now)) }
 {
     let names = set_of(alloc, context(table, equation))?;
     unknown_inside(alloc, sizes, &names, &equation.right)
@@ -110,8 +111,7 @@ fn unknown_in_rights<'a>(
 ) -> Result<Option<Found<'a>>, Memory>
     ensures { IfOk result (λ first. option_map found first
         ≡ first_found (λ e. first_found (λ p. rules.unknown_written sizes.now (written_at p))
-        (list.parts_of false (over (domains.given_or (names_at (option_map (λ d. d.now)
-        (lookup (bytes_eq e.name) table.now))) e.indices)) (view e.right))) equations.now) }
+        (parts_by (lookup (bytes_eq e.name) table.now) e)) equations.now) }
 {
     let mut first = None;
     for equation in equations {

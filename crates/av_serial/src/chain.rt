@@ -2,12 +2,12 @@
 
 ghost use Rattle.std.specs.Prelude.{◌≡◌, ◌≤◌, ◌<◌, ◌-◌, ◌+◌, ◌^◌, [], ◌∷◌, ◌++◌, All, IfOk, codes};
 ghost use Rattle.std.specs.Fmt.{decimal};
-ghost use Rattle.av_base.specs.Words.{identity};
 ghost use Rattle.av_affine.specs.Forms.{IsWithinLimits};
 ghost use Rattle.av_flat.specs.Trees.{view, view_variable, binary, pick};
 ghost use Rattle.av_flat.specs.WellFormed.{IsProjection};
 ghost use Rattle.av_serial.specs.Lines.{choice_before};
 ghost use Rattle.av_serial.specs.SerialForm.{sign_of, chain_name};
+ghost use Rattle.av_serial.specs.inner.Building.{folded_piece, folded_tree};
 ghost use Rattle.av_flat.specs.declared.flat.Kind.TheVariants as kind;
 
 use crate::choices::choice_before;
@@ -88,8 +88,8 @@ fn folded(
     requires from { map.now.from ≤ 4 }
     requires dimension { domain.now.dim ≡ map.now.from }
     requires rows { All IsWithinLimits domain.now.rows }
-    ensures { IfOk result (λ tree. view tree ≡ binary (sign_of op)
-        (pick place (choice_before map.now domain.now ∷ []) (identity width.bits op)) (view body)) }
+    ensures { IfOk result (λ tree.
+        view tree ≡ folded_tree width.bits place op map.now domain.now (view body)) }
 {
     let before = own_read(alloc, map, domain, place, Word::identity(op, width))?;
     joined(alloc, op, before, body)
@@ -133,7 +133,7 @@ pub(crate) fn chain(
           kind = kind.Partial;
           width = width.bits;
           domain = domain;
-          pieces = record { domain = domain; tree = binary (sign_of op) (pick place (choice_before map.now domain ∷ []) (identity width.bits op)) (view body) } ∷ [];
+          pieces = folded_piece width.bits place op map.now domain (view body) ∷ [];
         }) }
 {
     let tree = folded(alloc, width, op, map, &domain, place, body)?;

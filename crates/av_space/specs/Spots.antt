@@ -6,6 +6,7 @@ use Rattle.av_poly.specs.Points.{Set}
 use Rattle.av_tree.specs.Points.{Point}
 use Rattle.av_flat.specs.declared.timed.Helper.{Helper}
 use Rattle.av_flat.specs.Trees.{Tree, Piece, Variable, FlatSystem, view, view_piece, view_variable, view_system, reference, pick}
+use Rattle.av_flat.specs.Helped.{before}
 use Rattle.av_flat.specs.Points.{has}
 use Rattle.av_flat.specs.Signatures.{is_input}
 use Rattle.av_flat.specs.Values.{picked}
@@ -128,6 +129,10 @@ pub record IsLinkedBy (a : Array) (at : Spot) (c : ℕ) (tap : Tap) (q d : ℕ) 
 -- along the pipeline of a helper
 abbrev pub handed_tap : Place → Pipeline → Tap
 handed_tap p h = record { place = p; way = handed h.number h.direction }
+
+-- the point before a computation, in the direction of a helper, is in the spot's piece
+abbrev pub HasPointBefore : Spot → Slot → Pipeline → Type 0
+HasPointBefore at t h = IsTrue (has at.piece.now.domain (before t.point h.direction))
 
 -- a reference with a helper is read at the entry points of the direction alone
 abbrev pub own_way : Option Pipeline → Way

@@ -1,14 +1,11 @@
 //! Where the pieces on the cells of an array read.
 
-ghost use Rattle.std.specs.Prelude.{ℕ, ◌≡◌, ◌↔◌, ◌<◌, IsTrue, All, AllPairs, Contains, Some, length, slice_get, MatchOption};
-ghost use Rattle.av_tree.specs.Points.{Point as PointSeen};
-ghost use Rattle.av_flat.specs.Helped.{before};
-ghost use Rattle.av_flat.specs.Points.{has};
+ghost use Rattle.std.specs.Prelude.{◌≡◌, ◌↔◌, ◌<◌, IsTrue, All, AllPairs, Contains, Some, length, slice_get, MatchOption};
 ghost use Rattle.av_flat.specs.Trees.{view, view_piece};
 ghost use Rattle.av_space.specs.Ports.{IsPortBefore};
 ghost use Rattle.av_flat.specs.Sites.{place_of};
 ghost use Rattle.av_space.specs.Spots.{own_way};
-ghost use Rattle.av_space.specs.Taps.{IsReadAt, IsReadBy};
+ghost use Rattle.av_space.specs.Taps.{IsReadAt};
 ghost use Rattle.av_space.specs.inner.Sites.{tap_of, way_of};
 
 use crate::array::Array;
@@ -22,7 +19,6 @@ use crate::tapping::same;
 use av_base::{Point, Word};
 use av_depend::is_computed_at;
 use av_flat::Tree;
-use std::marker::Model;
 
 /// Where a place of a piece reads in a cycle.
 #[derive(Clone, Copy, Debug, PartialEq, Eq)]
@@ -35,59 +31,43 @@ pub enum Origin {
     Number(Word),
 }
 
-/// A port whose reference has numbers that are not known to fit 32 bits.
-#[derive(Clone, Copy, Debug, PartialEq, Eq)]
-pub(crate) struct PortPlace {
-    pub(crate) cell: usize,
-    pub(crate) piece: usize,
-    pub(crate) site: usize,
-}
-
-impl Model for PortPlace {
-    ghost use Rattle.av_space.specs.declared.cells.InPort.{InPort};
-
-    ghost Value = { InPort };
-
-    ghost view = { λ p. record { cell = p.cell; piece = p.piece; site = p.site } };
-
-    ghost inverse = { λ p. record { cell = p.cell; piece = p.piece; site = p.site } };
-}
-
-// Whether the first port comes before the second.
-fn is_port_before(cells: &[Cell], a: &InPort, b: &PortPlace) -> bool
-    requires first { a.now.cell < length cells.now }
-    requires second { b.now.cell < length cells.now }
-    ensures { IsTrue result ↔ IsPortBefore cells.now a.now b.now }
+// Whether the port comes before that of a reference, by its piece and its number there, on a cell.
+fn is_port_before(cells: &[Cell], port: &InPort, cell: usize, piece: usize, site: usize) -> bool
+    requires first { port.now.cell < length cells.now }
+    requires second { cell < length cells.now }
+    ensures { IsTrue result
+        ↔ IsPortBefore cells.now port.now (record { cell = cell; piece = piece; site = site }) }
 {
-    let node = cells[a.cell as usize].node;
-    let other = cells[b.cell].node;
+    let node = cells[port.cell as usize].node;
+    let other = cells[cell].node;
     if node != other {
         return node < other;
     }
-    let piece = a.piece as usize;
-    if piece != b.piece {
-        return piece < b.piece;
+    let own_piece = port.piece as usize;
+    if own_piece != piece {
+        return own_piece < piece;
     }
-    let site = a.site as usize;
-    if site != b.site {
-        return site < b.site;
+    let own_site = port.site as usize;
+    if own_site != site {
+        return own_site < site;
     }
-    (a.cell as usize) < b.cell
+    (port.cell as usize) < cell
 }
 
-// The number of a port among the ports.
-fn port_at(cells: &[Cell], ports: &[InPort], port: &PortPlace) -> usize
+// The number of the port of a reference on a cell.
+fn port_at(cells: &[Cell], ports: &[InPort], cell: usize, piece: usize, site: usize) -> usize
     requires cells { All (λ p. p.cell < length cells.now) ports.now }
     requires order { AllPairs (IsPortBefore cells.now) ports.now }
-    requires cell { port.now.cell < length cells.now }
-    requires there { Contains ports.now port.now }
-    ensures { slice_get ports.now result ≡ Some port.now }
+    requires cell { cell < length cells.now }
+    requires there { Contains ports.now (record { cell = cell; piece = piece; site = site }) }
+    ensures { slice_get ports.now result
+        ≡ Some (record { cell = cell; piece = piece; site = site }) }
 {
     let mut low: usize = 0;
     let mut high = ports.len();
     while low < high {
         let middle = low + (high - low) / 2;
-        if is_port_before(cells, &ports[middle], port) {
+        if is_port_before(cells, &ports[middle], cell, piece, site) {
             low = middle + 1;
         } else {
             high = middle;
@@ -107,8 +87,8 @@ fn own_way(pipeline: &Option<Pipeline>) -> Way
 }
 
 impl Array<'_> {
-    ghost use Rattle.av_space.specs.Spots.{IsArray, IsSpot, IsSlotIn, IsSiteOf, system_of, handed_tap, IsLinkedBy, IsOriginBy};
-    ghost use Rattle.av_space.specs.inner.SpotTaps.{own_tap, IsSpotTap, IsReadThere, IsComputedRead, IsPortSite};
+    ghost use Rattle.av_space.specs.Spots.{IsArray, IsSpot, IsSlotIn, IsSiteOf, system_of, handed_tap, IsLinkedBy, IsOriginBy, HasPointBefore};
+    ghost use Rattle.av_space.specs.inner.SpotTaps.{own_tap, IsSpotTap, IsReadThere, IsReadOver, ReadsNothing, IsComputedRead, IsPortSite};
 
     // What a tap site of a piece reads at a computation.
     fn reading(&self, spot: &Spot<'_>, tap: &TapSite<'_>, slot: &Slot) -> Option<TapReading>
@@ -117,9 +97,8 @@ impl Array<'_> {
         requires tap { IsSpotTap self.now spot.now (tap_of tap.now) }
         requires slot { IsSlotIn self.now
             spot.now.cell spot.now.node spot.now.piece.now.domain slot.now }
-        ensures { MatchOption result (IsReadThere self.now spot.now (tap_of tap.now) slot.now
-            → ⊥) (λ r. IsReadThere self.now spot.now (tap_of tap.now) slot.now
-            × IsLinkedBy self.now spot.now slot.now.cycle (tap_of tap.now) r.producer r.delay) }
+        ensures { MatchOption result (IsReadThere self.now spot.now (tap_of tap.now) slot.now → ⊥)
+            (λ r. IsReadOver self.now spot.now (tap_of tap.now) slot.now r.producer r.delay) }
     {
         reading_at(self.timed, &self.layout, spot.node, tap, spot.piece, slot)
     }
@@ -137,13 +116,14 @@ impl Array<'_> {
             (record { cell = spot.now.cell; piece = spot.now.number; site = site.now.place.site }) }
     {
         let place = &site.place;
-        let port = PortPlace {
-            cell: spot.cell,
-            piece: spot.number,
-            site: place.site as usize,
-        };
         let cells = self.layout.cells.as_slice();
-        port_at(cells, self.cells.inputs.as_slice(), &port)
+        port_at(
+            cells,
+            self.cells.inputs.as_slice(),
+            spot.cell,
+            spot.number,
+            place.site as usize,
+        )
     }
 
     // Where a place of a computed variable reads itself: over a link, where it reads.
@@ -156,10 +136,9 @@ impl Array<'_> {
             spot.now.cell spot.now.node spot.now.piece.now.domain slot.now }
         requires entered { IsReadAt site.now.pipeline
             (view_piece spot.now.piece.now) slot.now.point }
-        ensures { MatchOption result
-            ((place : ℕ) (y : PointSeen) → IsReadBy (view site.now.place.tree) slot.now.point place y → ⊥)
-            (λ r. IsReadThere self.now spot.now (own_tap (place_of site.now.place) site.now.pipeline) slot.now
-            × IsLinkedBy self.now spot.now slot.now.cycle (own_tap (place_of site.now.place) site.now.pipeline) r.producer r.delay) }
+        ensures { MatchOption result (ReadsNothing (view site.now.place.tree) slot.now.point) (λ r.
+            IsReadOver self.now spot.now
+            (own_tap (place_of site.now.place) site.now.pipeline) slot.now r.producer r.delay) }
     {
         let tap = TapSite {
             place: same(&site.place),
@@ -183,10 +162,9 @@ impl Array<'_> {
         requires pipeline { site.now.pipeline ≡ Some pipeline.now }
         requires slot { IsSlotIn self.now
             spot.now.cell spot.now.node spot.now.piece.now.domain slot.now }
-        ensures { MatchOption result
-            (IsTrue (has spot.now.piece.now.domain (before slot.now.point pipeline.now.direction)) → ⊥)
-            (λ r. IsTrue (has spot.now.piece.now.domain (before slot.now.point pipeline.now.direction))
-            × IsLinkedBy self.now spot.now slot.now.cycle (handed_tap (place_of site.now.place) pipeline.now) r.producer r.delay) }
+        ensures { MatchOption result (HasPointBefore spot.now slot.now pipeline.now → ⊥) (λ r.
+            HasPointBefore spot.now slot.now pipeline.now × IsLinkedBy self.now spot.now
+            slot.now.cycle (handed_tap (place_of site.now.place) pipeline.now) r.producer r.delay) }
     {
         let tap = TapSite {
             place: same(&site.place),

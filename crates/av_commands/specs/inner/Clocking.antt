@@ -1,5 +1,5 @@
 -- What is needed to clock a module.
-use Rattle.std.specs.Prelude.{◌≡◌, length, ◌⊎◌}
+use Rattle.std.specs.Prelude.{◌≡◌, ℕ, List, length, ◌⊎◌}
 use Rattle.av_net.specs.declared.netlist.Module.{Module}
 use Rattle.av_net.specs.Sound.{IsSound}
 use Rattle.av_wave.specs.Clocking.{AreWires}
@@ -21,8 +21,10 @@ pub record IsPrepared (m : Module) (p : Prepared) : Type 0 where
   pub room : length p.words ≡ length (header_ports m)
   pub count : p.inputs ≡ length m.inputs
 
+-- this holds of the lines of each run of the module under the stimulus
+abbrev pub OfEachRun : Module → Stimulus → (List ℕ → Type 0) → Type 0
+OfEachRun m s P = (stream : Stream) (run : Run) → IsStimulated m s stream → IsRun m s.cycles stream run → P (run_lines m run.in_cycle s.cycles)
+
 -- the lines of each run under the stimulus were put, or memory ran out and nothing was added
 abbrev pub IsClocked : Module → Stimulus → SinkState → SinkState → Status → Type 0
-IsClocked m s sink sink' status =
-    ((status ≡ Memory) × (sink'.held ≡ sink.held))
-    ⊎ ((stream : Stream) (run : Run) → IsStimulated m s stream → IsRun m s.cycles stream run → IsPut sink sink' (run_lines m run.in_cycle s.cycles) Done status)
+IsClocked m s sink sink' status = ((status ≡ Memory) × (sink'.held ≡ sink.held)) ⊎ OfEachRun m s (λ lines. IsPut sink sink' lines Done status)

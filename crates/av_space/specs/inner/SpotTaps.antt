@@ -12,9 +12,9 @@ use Rattle.av_space.specs.declared.layout.Slot.{Slot}
 use Rattle.av_space.specs.declared.spots.Site.{Site}
 use Rattle.av_space.specs.declared.spots.Spot.{Spot}
 use Rattle.av_flat.specs.Sites.{Place}
-use Rattle.av_space.specs.Taps.{Pipeline, Tap, taps, IsTapRead}
+use Rattle.av_space.specs.Taps.{Pipeline, Tap, taps, IsReadBy, IsTapRead}
 use Rattle.av_depend.specs.ComputedPlaces.{computed_at}
-use Rattle.av_space.specs.Spots.{system_of, helpers_of, cells_of, own_way, IsSiteOf}
+use Rattle.av_space.specs.Spots.{system_of, helpers_of, cells_of, own_way, IsSiteOf, IsLinkedBy}
 
 -- the variable of the node of a cell
 pub record IsVariableOn (a : Array) (p : ℕ) (v : Variable) : Type 0 where
@@ -43,6 +43,14 @@ pub record IsReadThere (a : Array) (at : Spot) (tap : Tap) (slot : Slot) : Type 
   pub node : ℕ
   pub point : Point
   pub reads : IsTapRead (system_of a) at.node tap.place.tree tap.way (view_piece at.piece.now) slot.point node point
+
+-- it reads at a computation, and a link brings what it reads from the cell q, with the delay d
+abbrev pub IsReadOver : Array → Spot → Tap → Slot → ℕ → ℕ → Type 0
+IsReadOver a at tap slot q d = IsReadThere a at tap slot × IsLinkedBy a at slot.cycle tap q d
+
+-- the tree reads nothing at a point
+abbrev pub ReadsNothing : Tree → Point → Type 0
+ReadsNothing tree z = (place : ℕ) (y : Point) → IsReadBy tree z place y → ⊥
 
 -- what the place reads is computed
 abbrev pub IsComputedRead : FlatSystem → Tree → Type 0

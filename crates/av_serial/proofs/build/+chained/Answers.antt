@@ -165,6 +165,15 @@ reduced-returns t c =
     let index = length c.as_slice-index.result.now in
     if_ok c.placed.result c.placed.ensures
     (λ made p set d.
-    subst (λ (u : Tree). AreMade c.args.name.now e.first e.width.bits e.base c.args.chains.now c.placed.new.chains (reduction c.args.op c.args.map.now (view c.args.body.now) set) u) (sym p.reads)
-    (made_reduction c.args.name.now e.first e.width.bits e.base c.args.op c.args.map.now (view c.args.body.now) (view c.in_ok-body.body) set c.args.domain (choices_of c.args.map.now c.args.domain.rows) (identity e.width.bits c.args.op) (e.base + index) index
+    subst (λ (u : Tree). AreMade c.args.name.now e.first e.width.bits e.base c.args.chains.now c.placed.new.chains (reduction c.args.reduction.op c.args.reduction.map.now (view c.args.body.now) set) u) (sym p.reads)
+    (made_reduction c.args.name.now e.first e.width.bits e.base c.args.reduction.op c.args.reduction.map.now (view c.args.body.now) (view c.in_ok-body.body) set c.args.reduction.domain (choices_of c.args.reduction.map.now c.args.reduction.domain.rows) (identity e.width.bits c.args.reduction.op) (e.base + index) index
     c.args.chains.now c.push.new.self c.chained.new.chains c.placed.new.chains c.in_ok-placeholder.field-0 p.own d (ap (λ (xs : List Var). length xs) c.as_slice-index.ensures) refl c.in_ok-push.ensures.ok c.in_ok-body.ensures p.is p.chain refl refl))
+
+pub chained-returns-in-Some : goal.chained-returns-in-Some
+chained-returns-in-Some t c =
+    let e = c.args.equation in
+    let d = subst (λ (o : Option Set). IsDomainOf c.in-Reduce.map c.in-Reduce.set o) c.in-Some.is c.in_ok-domain-in-Reduce.ensures in
+    if_ok c.reduced.result c.reduced.ensures
+    (λ made r.
+    subst (λ (u : Tree). AreMade c.args.name.now e.first e.width.bits e.base c.args.chains.now c.reduced.new.chains u (view made))
+    (ap (λ (b : TreeMade). reduction c.in-Reduce.op c.in-Reduce.map (view b) c.in-Reduce.set) c.deref-in-Some.ensures ∙ sym (ap view c.in-Reduce.is)) (r c.in-Reduce.set d))

@@ -24,7 +24,7 @@ pub loop-low-preserved-then-is_port_before : goal.loop-low-preserved-then-is_por
 loop-low-preserved-then-is_port_before c =
     let cells = c.args.cells.now in
     let ports = c.args.ports.now in
-    let own = c.args.port.now in
+    let own : InPort = record { cell = c.args.cell; piece = c.args.piece; site = c.args.site } in
     let low = c.loop-low.low in
     let high = c.loop-low.high in
     let m = low + (high - low) / 2 in
@@ -38,7 +38,7 @@ pub loop-low-preserved : goal.loop-low-preserved
 loop-low-preserved c =
     let cells = c.args.cells.now in
     let ports = c.args.ports.now in
-    let own = c.args.port.now in
+    let own : InPort = record { cell = c.args.cell; piece = c.args.piece; site = c.args.site } in
     let low = c.loop-low.low in
     let high = c.loop-low.high in
     let m = low + (high - low) / 2 in
@@ -51,4 +51,6 @@ loop-low-preserved c =
     }
 
 pub returns : goal.returns
-returns c = found InPort (IsPortBefore c.args.cells.now) (ports_in_turn c.args.cells.now) c.args.ports.now c.args.port.now c.requires.order c.loop-low.low c.loop-low.high c.loop-low-test.false c.requires.there c.loop-low.invariant.between
+returns c =
+    let own : InPort = record { cell = c.args.cell; piece = c.args.piece; site = c.args.site } in
+    found InPort (IsPortBefore c.args.cells.now) (ports_in_turn c.args.cells.now) c.args.ports.now own c.requires.order c.loop-low.low c.loop-low.high c.loop-low-test.false c.requires.there c.loop-low.invariant.between
