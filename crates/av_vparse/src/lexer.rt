@@ -26,7 +26,7 @@ pub(crate) fn lex<'a>(alloc: Global, bytes: &'a [u8]) -> Result<List<DesignToken
                 place = moved(place, part(bytes, at, len));
                 at += len;
             }
-            Lexeme::DesignToken(kind, len) => {
+            Lexeme::Token(kind, len) => {
                 let text = part(bytes, at, len);
                 found.push(DesignToken {
                     kind,
