@@ -40,7 +40,7 @@ pub slots_at-slots-requires : goal.slots_at-slots-requires
 slots_at-slots-requires c =
     let s = view_system c.args.timed.now.flat in
     let v = view_variable c.args.consumer.now.var.now in
-    let f = fine_tap c.args.timed.now c.requires.legal (node_place s c.args.consumer.now.node) v (node_chained s c.args.consumer.now.node v c.requires.legal.chained c.requires.consumer.is_variable) c.args.number (tap_of c.args.site.now) c.requires.site in
+    let f = fine_tap c.args.timed.now c.requires.legal (node_place s c.args.consumer.now.node) v (chained_node s c.args.consumer.now.node v c.requires.legal.chained c.requires.consumer.is_variable) c.args.number (tap_of c.args.site.now) c.requires.site in
     let low = in_range v.pieces c.args.site.now.place.piece f.piece f.is_piece in
     let e = c.piece-place.ensures in
     let size : length (map view_piece c.args.consumer.now.var.now.pieces) ≡ length c.args.consumer.now.var.now.pieces = length-map c.args.consumer.now.var.now.pieces view_piece in
