@@ -45,7 +45,7 @@ width_read-width-requires c =
     let at = c.args.spot.now in
     let on = c.requires.place in
     let place = c.args.place.now in
-    let tree = ap (λ (x : Site). view x.tree) c.read.view_is in
+    let tree = ap (λ (x : PlaceMade). view x.tree) c.read.view_is in
     subst (λ (f : Flat). HasVariable (view_system f) (view c.read.inside.tree.now)) (sym c.requires.flat)
     (subst (λ (t : Tree). HasVariable (system_of b.array) t) (sym tree)
     (variable_there b c.requires.blueprint at (spot_there b c.requires.blueprint at on.sites on.spot_on) (some_slots b c.requires.blueprint at on.sites on.spot_on) place (site_at b c.requires.blueprint at on.sites on.spot_on on.index place on.is_place)))
@@ -60,7 +60,7 @@ returns c =
     let inlet = c.inlet_of.result in
     let width = c.width_read-width.result in
     let own = view c.read.inside.tree.now in
-    let tree = ap (λ (x : Site). view x.tree) c.read.view_is in
+    let tree = ap (λ (x : PlaceMade). view x.tree) c.read.view_is in
     let inlet_is = c.inlet_of.ensures ∙ ap (λ (f : Flat). inlet_by (view_system f) (λ j. j) None own) c.requires.flat ∙ ap (λ (t : Tree). inlet_by (system_of b.array) (λ j. j) None t) tree in
     let width_is = c.width_read-width.ensures ∙ ap (λ (f : Flat). read_width (view_system f) (view_variable at.var.now).width None own) c.requires.flat ∙ ap (λ (t : Tree). read_width (system_of b.array) (view_variable at.var.now).width None t) tree in
     IfOk-weaker c.site.result _ _ (λ site e plan is_plan.
