@@ -47,7 +47,7 @@ helper_modes-requires c =
     let there = site_at b c.requires.blueprint at on.sites on.spot_on h.site mine
     (is_place b at h on c.as_slice.result.now c.index-as_slice-spot.result c.as_slice.ensures c.index-as_slice-spot.is c.as_slice-2.result.now c.as_slice-2.ensures c.index-as_slice-helper.result c.index-as_slice-helper.is
     c.as_slice-3.result.now c.as_slice-3.ensures mine c.index-as_slice-helper-2.is) in
-    let tree = ap (λ (x : Site). view x.tree) c.read.view_is in
+    let tree = ap (λ (x : PlaceMade). view x.tree) c.read.view_is in
     subst (λ (f : Flat). HasVariable (view_system f) (view c.read.inside.tree.now)) (sym c.requires.flat)
     (subst (λ (t : Tree). HasVariable (system_of b.array) t) (sym tree)
     (variable_there b c.requires.blueprint at (spot_there b c.requires.blueprint at on.sites on.spot_on) (some_slots b c.requires.blueprint at on.sites on.spot_on) mine there))
@@ -62,7 +62,7 @@ returns c =
     let on = found_on b at h c.requires.helper c.as_slice.result.now c.index-as_slice-spot.result c.as_slice.ensures c.index-as_slice-spot.is c.as_slice-2.result.now c.as_slice-2.ensures
     c.index-as_slice-helper.result c.index-as_slice-helper.is c.as_slice-3.result.now c.as_slice-3.ensures mine c.index-as_slice-helper-2.is c.in-Some.pipeline c.in-Some.is in
     let order = subst (λ l. IsInOrder count at.slots l) (sym c.as_slice-5.ensures) (subst (λ s. IsInOrder count s c.in_ok-order.order) c.as_slice-4.ensures c.in_ok-order.ensures) in
-    let tree = ap (λ (x : Site). view x.tree) c.read.view_is in
+    let tree = ap (λ (x : PlaceMade). view x.tree) c.read.view_is in
     if_ok_map _ _ (λ modes are.
     let here = subst (λ (t : Tree). ArePipelineModes (system_of b.array) at.var.now.width t c.in_ok-found.found (map mode_of modes)) tree
     (subst (λ (f : Flat). ArePipelineModes (view_system f) at.var.now.width (view c.read.inside.tree.now) c.in_ok-found.found (map mode_of modes)) c.requires.flat are) in
