@@ -7,6 +7,7 @@ ghost use Rattle.av_affine.specs.Cells.{delta, skip, IsAmong, one_cell, two_cell
 
 use crate::Square;
 use crate::pivot::{Pivot, nth_other};
+use std::array;
 
 // The product of small numbers.
 fn product(a: i64, b: i64) -> i64
@@ -88,11 +89,7 @@ fn completed_row(vector: &[i64], pivot: &Pivot, row: usize) -> [i64; 4]
         then completed_cell pivot.now vector.now row index
         else pos 0) }
 {
-    let first = completed_at(vector, pivot, row, 0);
-    let second = completed_at(vector, pivot, row, 1);
-    let third = completed_at(vector, pivot, row, 2);
-    let fourth = completed_at(vector, pivot, row, 3);
-    [first, second, third, fourth]
+    array::from_fn(|index| completed_at(vector, pivot, row, index))
 }
 
 /// The completed matrix.
@@ -101,13 +98,10 @@ pub(crate) fn completed(vector: &[i64], pivot: &Pivot) -> Square
     requires pivot { IsAmong (length vector.now) pivot.now }
     ensures { result ≡ square_of (length vector.now) (completed_cell pivot.now vector.now) }
 {
-    let first = completed_row(vector, pivot, 0);
-    let second = completed_row(vector, pivot, 1);
-    let third = completed_row(vector, pivot, 2);
-    let fourth = completed_row(vector, pivot, 3);
+    let row = |index| completed_row(vector, pivot, index);
     Square {
         size: vector.len() as u8,
-        cells: [first, second, third, fourth],
+        cells: [row(0), row(1), row(2), row(3)],
     }
 }
 
@@ -240,11 +234,8 @@ fn inverse_row(vector: &[i64], pivot: &Pivot, row: usize) -> [i64; 4]
         then inverse_cell pivot.now vector.now row index
         else pos 0) }
 {
-    let first = inverse_at(vector, pivot, row, 0);
-    let second = inverse_at(vector, pivot, row, 1);
-    let third = inverse_at(vector, pivot, row, 2);
-    let fourth = inverse_at(vector, pivot, row, 3);
-    [first, second, third, fourth]
+    let cell = |index| inverse_at(vector, pivot, row, index);
+    [cell(0), cell(1), cell(2), cell(3)]
 }
 
 /// The inverse of the completed matrix.
@@ -254,12 +245,9 @@ pub(crate) fn inverted(vector: &[i64], pivot: &Pivot) -> Square
     requires pivot { IsAmong (length vector.now) pivot.now }
     ensures { result ≡ square_of (length vector.now) (inverse_cell pivot.now vector.now) }
 {
-    let first = inverse_row(vector, pivot, 0);
-    let second = inverse_row(vector, pivot, 1);
-    let third = inverse_row(vector, pivot, 2);
-    let fourth = inverse_row(vector, pivot, 3);
+    let row = |index| inverse_row(vector, pivot, index);
     Square {
         size: vector.len() as u8,
-        cells: [first, second, third, fourth],
+        cells: [row(0), row(1), row(2), row(3)],
     }
 }

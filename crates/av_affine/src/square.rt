@@ -4,6 +4,7 @@ ghost use Rattle.av_affine.specs.Squares.{row_of, column_of, product, identity};
 
 use crate::form::products;
 use arrayvec::ArrayVec;
+use std::array;
 
 /// A square matrix of at most four rows.
 ///
@@ -21,13 +22,10 @@ pub fn multiply(a: &Square, b: &Square) -> Square
     requires second { All (AtMost 1024) b.now.cells }
     ensures { result ≡ product a.now b.now }
 {
-    let first = product_row(a, b, 0);
-    let second = product_row(a, b, 1);
-    let third = product_row(a, b, 2);
-    let fourth = product_row(a, b, 3);
+    let row = |index| product_row(a, b, index);
     Square {
         size: a.size,
-        cells: [first, second, third, fourth],
+        cells: [row(0), row(1), row(2), row(3)],
     }
 }
 
@@ -82,11 +80,7 @@ fn product_row(a: &Square, b: &Square, row: usize) -> [i64; 4]
         then dot (row_of row a.now) (column_of index b.now)
         else pos 0) }
 {
-    let first = product_cell(a, b, row, 0);
-    let second = product_cell(a, b, row, 1);
-    let third = product_cell(a, b, row, 2);
-    let fourth = product_cell(a, b, row, 3);
-    [first, second, third, fourth]
+    array::from_fn(|index| product_cell(a, b, row, index))
 }
 
 // The identity's cell, and 0 past its rows and columns.
@@ -110,25 +104,16 @@ fn unit_row(size: u8, row: usize) -> [i64; 4]
         then (if nat_eq row index then pos 1 else pos 0)
         else pos 0) }
 {
-    [
-        unit_cell(size, row, 0),
-        unit_cell(size, row, 1),
-        unit_cell(size, row, 2),
-        unit_cell(size, row, 3),
-    ]
+    array::from_fn(|index| unit_cell(size, row, index))
 }
 
 // The identity.
 fn unit_matrix(size: u8) -> Square
     ensures { result ≡ identity size }
 {
+    let row = |index| unit_row(size, index);
     Square {
         size,
-        cells: [
-            unit_row(size, 0),
-            unit_row(size, 1),
-            unit_row(size, 2),
-            unit_row(size, 3),
-        ],
+        cells: [row(0), row(1), row(2), row(3)],
     }
 }

@@ -6,3 +6,4 @@ pub mod Streams
 pub mod Tokens
 pub mod Words
 pub mod formers
+pub mod inner

@@ -17,6 +17,7 @@ mod sink;
 mod source;
 mod spelling;
 mod stream;
+mod text;
 mod token_kind;
 mod width;
 mod word;
