@@ -6,4 +6,3 @@ pub mod Streams
 pub mod Tokens
 pub mod Words
 pub mod formers
-pub mod inner

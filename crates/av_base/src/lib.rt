@@ -17,7 +17,6 @@ mod sink;
 mod source;
 mod spelling;
 mod stream;
-mod text;
 mod token_kind;
 mod width;
 mod word;
