@@ -31,12 +31,9 @@ fn row_of(linear: &Point, most: i64) -> Form
     ensures constant { result.constant ≡ most }
 {
     let entries = linear.as_slice();
-    let a = turned(entries, 0);
-    let b = turned(entries, 1);
-    let c = turned(entries, 2);
-    let d = turned(entries, 3);
+    let entry = |index| turned(entries, index);
     Form {
-        coef: [a, b, c, d],
+        coef: [entry(0), entry(1), entry(2), entry(3)],
         constant: most,
     }
 }
