@@ -60,13 +60,10 @@ stand_right {X} j xs ys whole h i x e =
 pub part_at : (at : NodePiece) (t : Tree) (j : ℕ) (r : Reference) → IsPart at 0 t → slice_get (references t) j ≡ Some r → IsPart at j (reference r.place r.map)
 part_at at t j r h e =
     let Q = Fits (signatures (view_system at.timed.now.flat)) at.piece.now.domain.dim in
-    let l = slice_get_within (references t) j r e in
-    let few = h.few in
     record {
       stand = one;
       fits = each_at (λ (q : Reference). Q (reference q.place q.map)) (references t) j r (each_reference Q (λ g a b k. k) (λ a o b x y k. k) t h.fits) e;
       rows = each_at (λ (q : Reference). EachPart HasSmallRows (reference q.place q.map)) (references t) j r (each_reference (EachPart HasSmallRows) (λ g a b k. (k.1, k.2)) (λ a o b x y k. (k.1, k.2, k.3, k.4)) t h.rows) e;
-      few = omega (arith, l, few);
     }
   where
     one : (i : ℕ) (x : Reference) → slice_get (r ∷ []) i ≡ Some x → slice_get (references (view_piece at.piece.now).tree) (j + i) ≡ Some x
@@ -75,12 +72,11 @@ part_at at t j r h e =
 
 -- the whole piece
 pub whole_part : (at : NodePiece) → Fits (signatures (view_system at.timed.now.flat)) at.piece.now.domain.dim (view_piece at.piece.now).tree → EachPart HasSmallRows (view_piece at.piece.now).tree
-    → length (references (view_piece at.piece.now).tree) < 2 ^ 32 → IsPart at 0 (view_piece at.piece.now).tree
-whole_part at fits rows few = record {
+    → IsPart at 0 (view_piece at.piece.now).tree
+whole_part at fits rows = record {
   stand = λ i x e. (let a : i ≡ 0 + i = omega arith in subst (λ (n : ℕ). slice_get (references (view_piece at.piece.now).tree) n ≡ Some x) a e);
   fits = fits;
   rows = rows;
-  few = omega (arith, few);
 }
 
 pub reference_there : (at : NodePiece) (j place : ℕ) (m : Map) → IsPart at j (reference place m) → slice_get (references (view_piece at.piece.now).tree) j ≡ Some (record { place = place; map = m })

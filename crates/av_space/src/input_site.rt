@@ -30,12 +30,12 @@ pub(crate) struct InputSite<'a> {
 pub(crate) fn direction_of(
     helpers: &[Helper],
     place: usize,
-    piece: usize,
-    site: usize,
+    piece: u32,
+    site: u32,
 ) -> Option<Point>
     ensures { result ≡ direction_of (helper_at helpers.now place piece site) }
 {
-    Some(helper_at(helpers, place, piece, site)?.direction)
+    Some(helper_at(helpers, place, piece as usize, site)?.direction)
 }
 
 impl InputSite<'_> {

@@ -17,7 +17,6 @@ mod linking;
 mod locate;
 mod mapping;
 mod node_places;
-mod numbered;
 mod operators;
 mod origin;
 mod placement;

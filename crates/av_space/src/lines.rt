@@ -1,6 +1,6 @@
 //! The delay lines of the array.
 
-ghost use Rattle.std.specs.Prelude.{◌≡◌, ◌<◌, length, Some, slice_get, IfOk};
+ghost use Rattle.std.specs.Prelude.{◌≡◌, ◌<◌, length, IfOk};
 ghost use Rattle.av_flat.specs.Trees.{view_system};
 ghost use Rattle.av_flat.specs.Legal.{IsLegal};
 ghost use Rattle.av_space.specs.Links.{AreLinks, IsStretch, delay_count};
@@ -12,40 +12,31 @@ ghost use Rattle.av_space.specs.inner.Lengths.{line_of};
 use crate::cells::Link;
 use crate::layout::Layout;
 use crate::lengths::{DelayLine, lengthened};
-use crate::linking::{node_taps, taps_of_node};
-use crate::stretch::Stretch;
+use crate::linking::{node_taps, site_at, taps_of_node};
 use crate::tap::TapSite;
 use av_base::{List, Memory};
 use av_flat::Timed;
 use std::alloc::Global;
 use std::collections::BTreeMap;
 
-// The tap site with this number.
-fn site_at<'s, 'a>(sites: &'s [TapSite<'a>], number: usize) -> &'s TapSite<'a>
-    requires { number < length sites.now }
-    ensures { slice_get sites.now number ≡ Some result.now }
-{
-    &sites[number]
-}
-
-// The line that a stretch reads.
+// The line that a link reads.
 fn line_of(
     timed: &Timed,
     layout: &Layout,
     sites: &[List<TapSite<'_>>],
-    stretch: &Stretch,
+    link: &Link,
 ) -> DelayLine
     requires sites { AreNodeTaps (view_system timed.now.flat) timed.now.helpers sites.now }
-    requires stretch { IsStretch (view_system timed.now.flat)
-        timed.now.helpers layout.now.placements layout.now.cells stretch.now }
+    requires link { IsStretch (view_system timed.now.flat)
+        timed.now.helpers layout.now.placements layout.now.cells link.now }
     ensures { result ≡ line_of
-        (view_system timed.now.flat) timed.now.helpers layout.now.cells stretch.now }
+        (view_system timed.now.flat) timed.now.helpers layout.now.cells link.now }
 {
-    let cell = &layout.cells.as_slice()[stretch.consumer as usize];
+    let cell = &layout.cells.as_slice()[link.consumer as usize];
     let own = taps_of_node(sites, cell.node as usize);
     DelayLine {
-        cell: stretch.producer,
-        helper: site_at(own, stretch.site).helper(),
+        cell: link.producer,
+        helper: site_at(own.as_slice(), link.site as usize).helper(),
     }
 }
 
@@ -66,7 +57,7 @@ pub(crate) fn line_lengths(
     let sites = node_taps(alloc, timed, layout)?;
     let mut lengths = BTreeMap::new(alloc);
     for link in links {
-        let line = line_of(timed, layout, sites.as_slice(), &Stretch::of_link(link));
+        let line = line_of(timed, layout, sites.as_slice(), link);
         lengthened(&mut lengths, line, link.delay)?;
     }
     Ok(lengths)
@@ -77,21 +68,21 @@ pub(crate) fn delay_count(
     alloc: Global,
     timed: &Timed,
     layout: &Layout,
-    stretches: &[Stretch],
+    links: &[Link],
 ) -> Result<u128, Memory>
     requires legal { IsLegal timed.now }
     requires layout { IsLayout timed.now layout.now }
     requires links { AreLinks (view_system timed.now.flat)
-        timed.now.helpers layout.now.placements layout.now.cells stretches.now }
+        timed.now.helpers layout.now.placements layout.now.cells links.now }
     ensures { IfOk result (λ count. count ≡ delay_count
-        (view_system timed.now.flat) timed.now.helpers layout.now.cells stretches.now) }
+        (view_system timed.now.flat) timed.now.helpers layout.now.cells links.now) }
 {
     let sites = node_taps(alloc, timed, layout)?;
     let mut lengths = BTreeMap::new(alloc);
     let mut count: u128 = 0;
-    for stretch in stretches {
-        let line = line_of(timed, layout, sites.as_slice(), stretch);
-        count += u128::from(lengthened(&mut lengths, line, stretch.delay)?);
+    for link in links {
+        let line = line_of(timed, layout, sites.as_slice(), link);
+        count += u128::from(lengthened(&mut lengths, line, link.delay)?);
     }
     Ok(count)
 }

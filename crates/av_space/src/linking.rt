@@ -1,4 +1,4 @@
-//! Links of the array: the stretches of all tap sites of all cells.
+//! Links of the array, of all tap sites of all cells.
 
 ghost use Rattle.std.specs.Prelude.{ℕ, ◌≡◌, ◌↔◌, ◌<◌, List as Items, length, Contains, Some, slice_get, slice_index_or, [], map, IfOk, IfSome, OnOk};
 ghost use Rattle.av_flat.specs.Trees.{Piece as PieceSeen, view_piece, view_system, view_variable};
@@ -14,11 +14,12 @@ ghost use Rattle.av_space.specs.inner.Readings.{IsFineTap, IsSite, HasSite, IsRe
 ghost use Rattle.av_space.specs.inner.Stretches.{HasLinks, IsAt, IsOn};
 
 use crate::apart::slots_in;
+use crate::cells::Link;
 use crate::layout::{Layout, Slot};
 use crate::locate::locate;
 use crate::node_places::variable_of;
 use crate::reading::{is_in, read_at};
-use crate::stretch::{Stretch, TapReading, site_stretches};
+use crate::stretch::{TapReading, site_links};
 use crate::tap::TapSite;
 use crate::tapping::taps_of;
 use av_base::{List, Memory};
@@ -111,16 +112,16 @@ fn slots_at(own: &[List<Slot>], piece: usize) -> &[Slot]
     own[piece].as_slice()
 }
 
-// Appends the stretches of a tap site of a cell.
-fn tap_stretches(
+// Appends the links of a tap site of a cell.
+fn tap_links(
     alloc: Global,
     timed: &Timed,
     layout: &Layout,
     consumer: &Consumer<'_>,
-    number: usize,
+    number: u32,
     site: &TapSite<'_>,
     own: &[List<Slot>],
-    stretches: &mut List<Stretch>,
+    links: &mut List<Link>,
 ) -> Result<(), Memory>
     requires legal { IsLegal timed.now }
     requires layout { IsLayout timed.now layout.now }
@@ -133,24 +134,24 @@ fn tap_stretches(
     requires own { AreOwn (view_variable consumer.now.var.now) consumer.now.slots.now own.now }
     ensures { OnOk result (HasLinks (IsTapped
         (view_system timed.now.flat) timed.now.helpers layout.now.placements layout.now.cells)
-        (IsAt consumer.now.number number) stretches.old stretches.new) }
+        (IsAt consumer.now.number number) links.old links.new) }
 {
     let place = site.piece();
     let piece = piece_at(consumer.var, place);
     let slots = slots_at(own, place);
     let readings = readings(alloc, timed, layout, consumer.node, site, piece, slots)?;
-    site_stretches(consumer.number, number, readings.as_slice(), stretches)
+    site_links(consumer.number, number, readings.as_slice(), links)
 }
 
-// Appends the stretches of all tap sites of a cell.
-fn cell_stretches(
+// Appends the links of all tap sites of a cell.
+fn cell_links(
     alloc: Global,
     timed: &Timed,
     layout: &Layout,
     consumer: &Consumer<'_>,
-    sites: &[TapSite<'_>],
+    sites: &List<TapSite<'_>>,
     own: &[List<Slot>],
-    stretches: &mut List<Stretch>,
+    links: &mut List<Link>,
 ) -> Result<(), Memory>
     requires legal { IsLegal timed.now }
     requires layout { IsLayout timed.now layout.now }
@@ -163,10 +164,11 @@ fn cell_stretches(
     requires own { AreOwn (view_variable consumer.now.var.now) consumer.now.slots.now own.now }
     ensures { OnOk result (HasLinks (IsTapped
         (view_system timed.now.flat) timed.now.helpers layout.now.placements layout.now.cells)
-        (IsOn consumer.now.number) stretches.old stretches.new) }
+        (IsOn consumer.now.number) links.old links.new) }
 {
-    for (number, site) in sites.iter().enumerate() {
-        tap_stretches(alloc, timed, layout, consumer, number, site, own, stretches)?;
+    for number in 0..sites.len() {
+        let site = site_at(sites.as_slice(), number);
+        tap_links(alloc, timed, layout, consumer, number as u32, site, own, links)?;
     }
     Ok(())
 }
@@ -221,39 +223,46 @@ fn slots_of_pieces(alloc: Global, consumer: &Consumer<'_>) -> Result<List<List<S
 }
 
 /// The tap sites of a node.
-pub(crate) fn taps_of_node<'s, 'a>(sites: &'s [List<TapSite<'a>>], node: usize) -> &'s [TapSite<'a>]
+pub(crate) fn taps_of_node<'s, 'a>(
+    sites: &'s [List<TapSite<'a>>],
+    node: usize,
+) -> &'s List<TapSite<'a>>
     requires { node < length sites.now }
     ensures { result.now ≡ slice_index_or sites.now node [] }
 {
-    sites[node].as_slice()
+    &sites[node]
 }
 
-/// The stretches of all tap sites of all cells: the links of the array, with the numbers of tap sites as they are.
-pub(crate) fn stretches(
-    alloc: Global,
-    timed: &Timed,
-    layout: &Layout,
-) -> Result<List<Stretch>, Memory>
+/// The tap site with this number.
+pub(crate) fn site_at<'s, 'a>(sites: &'s [TapSite<'a>], number: usize) -> &'s TapSite<'a>
+    requires { number < length sites.now }
+    ensures { slice_get sites.now number ≡ Some result.now }
+{
+    &sites[number]
+}
+
+/// The links of the array: those of all tap sites of all cells.
+pub(crate) fn links(alloc: Global, timed: &Timed, layout: &Layout) -> Result<List<Link>, Memory>
     requires legal { IsLegal timed.now }
     requires layout { IsLayout timed.now layout.now }
     ensures { IfOk result (AreLinks
         (view_system timed.now.flat) timed.now.helpers layout.now.placements layout.now.cells) }
 {
     let sites = node_taps(alloc, timed, layout)?;
-    let mut stretches = List::new(alloc);
+    let mut links = List::new(alloc);
     for number in 0..layout.cells.as_slice().len() {
         let consumer = consumer_at(timed, layout, number);
         let own = taps_of_node(sites.as_slice(), consumer.node);
         let slots = slots_of_pieces(alloc, &consumer)?;
-        cell_stretches(
+        cell_links(
             alloc,
             timed,
             layout,
             &consumer,
             own,
             slots.as_slice(),
-            &mut stretches,
+            &mut links,
         )?;
     }
-    Ok(stretches)
+    Ok(links)
 }

@@ -8,21 +8,19 @@ ghost use Rattle.av_space.specs.declared.fault.SpaceFault.TheVariants as fault;
 ghost use Rattle.av_space.specs.SpaceFaults.{IsSpaceFault};
 ghost use Rattle.av_space.specs.Whole.{IsWhole};
 ghost use Rattle.av_space.specs.Layouts.{IsLayout};
-ghost use Rattle.av_space.specs.Listings.{AreInLines, AreAtLines};
-ghost use Rattle.av_space.specs.Ports.{ArePorts, output_cells};
-ghost use Rattle.av_space.specs.inner.Quantified.{HasOperators, AreWithin, IsLaidOut, LinksOf, delays_of};
+ghost use Rattle.av_space.specs.Listings.{AreAtLines};
+ghost use Rattle.av_space.specs.Ports.{output_cells};
+ghost use Rattle.av_space.specs.inner.Quantified.{AreWithin, IsLaidOut, LinksOf, delays_of};
 
 use crate::cells::{Cell, Cells, Link};
 use crate::fault::SpaceFault;
 use crate::laying::lay_out;
 use crate::layout::Layout;
 use crate::lines::delay_count;
-use crate::linking::stretches;
-use crate::numbered::links;
+use crate::linking::links;
 use crate::operators::operators;
-use crate::ports::{Ports, input_ports};
+use crate::ports::input_ports;
 use crate::shown::{at_lines, output_cells};
-use crate::stretch::Stretch;
 use av_base::limits::{MOST_DELAYS, MOST_LINKS, MOST_OPERATORS};
 use av_base::{List, Memory};
 use av_flat::Timed;
@@ -34,21 +32,21 @@ fn within_limits(
     alloc: Global,
     timed: &Timed,
     layout: &Layout,
-    stretches: &[Stretch],
+    links: &[Link],
 ) -> Result<u32, SpaceFault>
     requires legal { IsLegal timed.now }
     requires layout { IsLayout timed.now layout.now }
-    requires links { LinksOf timed.now layout.now stretches.now }
-    ensures delays { IfOk result (λ n. n ≡ delays_of timed.now layout.now stretches.now) }
-    ensures within { IfOk result (λ n. AreWithin timed.now layout.now stretches.now) }
+    requires links { LinksOf timed.now layout.now links.now }
+    ensures delays { IfOk result (λ n. n ≡ delays_of timed.now layout.now links.now) }
+    ensures within { IfOk result (λ n. AreWithin timed.now layout.now links.now) }
     ensures refused { IfErr result (IsSpaceFault timed.now) }
 {
-    let delays = delay_count(alloc, timed, layout, stretches)?;
+    let delays = delay_count(alloc, timed, layout, links)?;
     if delays > MOST_DELAYS {
         return Err(SpaceFault::Delays(delays));
     }
-    if stretches.len() > MOST_LINKS {
-        return Err(SpaceFault::Links(stretches.len() as u128));
+    if links.len() > MOST_LINKS {
+        return Err(SpaceFault::Links(links.len() as u128));
     }
     let operators = operators(alloc, timed, layout)?;
     if operators > MOST_OPERATORS {
@@ -57,41 +55,11 @@ fn within_limits(
     Ok(delays as u32)
 }
 
-// What joins the cells of an array: links, and input ports with the lines of the reads at them.
-#[derive(Drop)]
-struct Joined {
-    links: List<Link>,
-    ports: Ports,
-}
-
 // The numbers of the cells of outputs, and where each computed point is shown.
 #[derive(Drop)]
 struct Shown {
     outputs: List<u32>,
     ats: List<Entry>,
-}
-
-// The links and the input ports of a layout.
-fn join_cells(
-    alloc: Global,
-    timed: &Timed,
-    layout: &Layout,
-    stretches: &[Stretch],
-) -> Result<Joined, Memory>
-    requires legal { IsLegal timed.now }
-    requires layout { IsLayout timed.now layout.now }
-    requires links { LinksOf timed.now layout.now stretches.now }
-    requires few { HasOperators timed.now layout.now 1048576 }
-    ensures links { IfOk result (λ made. made.links ≡ stretches.now) }
-    ensures ports { IfOk result (λ made. ArePorts (view_system timed.now.flat)
-        timed.now.helpers layout.now.placements layout.now.cells made.ports.inputs) }
-    ensures lines { IfOk result (λ made. AreInLines (view_system timed.now.flat)
-        timed.now.helpers layout.now.placements layout.now.cells made.ports.inputs made.ports.ins) }
-    ensures few { IfOk result (λ made. length made.ports.inputs ≤ 2 ^ 64) }
-{
-    let links = links(alloc, stretches)?;
-    let ports = input_ports(alloc, timed, layout)?;
-    Ok(Joined { links, ports })
 }
 
 // The outputs of a layout, and its lines of computed points.
@@ -120,31 +88,30 @@ fn copied_cells(alloc: Global, cells: &[Cell]) -> Result<List<Cell>, Memory>
     Ok(copy)
 }
 
-// The array of a layout whose quantities are within their limits.
+// The array of a layout, with these links and so many registers.
 fn laid_out(
     alloc: Global,
     timed: &Timed,
     layout: &Layout,
-    stretches: &[Stretch],
+    links: List<Link>,
     delays: u32,
 ) -> Result<Cells, Memory>
     requires legal { IsLegal timed.now }
     requires layout { IsLayout timed.now layout.now }
-    requires links { LinksOf timed.now layout.now stretches.now }
-    requires delays { delays ≡ delays_of timed.now layout.now stretches.now }
-    requires few { HasOperators timed.now layout.now 1048576 }
-    ensures { IfOk result (IsLaidOut timed.now layout.now stretches.now) }
+    requires links { LinksOf timed.now layout.now links }
+    requires delays { delays ≡ delays_of timed.now layout.now links }
+    ensures { IfOk result (IsLaidOut timed.now) }
 {
-    let joined = join_cells(alloc, timed, layout, stretches)?;
+    let ports = input_ports(alloc, timed, layout)?;
     let shown = show_points(alloc, timed, layout)?;
     let cells = copied_cells(alloc, layout.cells.as_slice())?;
     Ok(Cells {
         cells,
-        links: joined.links,
-        inputs: joined.ports.inputs,
+        links,
+        inputs: ports.inputs,
         outputs: shown.outputs,
         listing: Listing {
-            ins: joined.ports.ins,
+            ins: ports.ins,
             ats: shown.ats,
         },
         cycles: layout.cycles,
@@ -157,17 +124,17 @@ fn limited(
     alloc: Global,
     timed: &Timed,
     layout: &Layout,
-    stretches: &[Stretch],
+    links: List<Link>,
 ) -> Result<Cells, SpaceFault>
     requires legal { IsLegal timed.now }
     requires layout { IsLayout timed.now layout.now }
-    requires links { LinksOf timed.now layout.now stretches.now }
-    ensures laid { IfOk result (IsLaidOut timed.now layout.now stretches.now) }
-    ensures within { IfOk result (λ a. AreWithin timed.now layout.now stretches.now) }
+    requires links { LinksOf timed.now layout.now links }
+    ensures laid { IfOk result (IsLaidOut timed.now) }
+    ensures within { IfOk result (λ a. AreWithin timed.now layout.now links) }
     ensures refused { IfErr result (IsSpaceFault timed.now) }
 {
-    let delays = within_limits(alloc, timed, layout, stretches)?;
-    let cells = laid_out(alloc, timed, layout, stretches, delays)?;
+    let delays = within_limits(alloc, timed, layout, links.as_slice())?;
+    let cells = laid_out(alloc, timed, layout, links, delays)?;
     Ok(cells)
 }
 
@@ -180,8 +147,8 @@ pub fn map_layout(alloc: Global, timed: &Timed, layout: &Layout) -> Result<Cells
         → IsSpaceFault timed.now f → f ≡ fault.Memory) }
     ensures refused { IfErr result (IsSpaceFault timed.now) }
 {
-    let stretches = stretches(alloc, timed, layout)?;
-    let cells = limited(alloc, timed, layout, stretches.as_slice())?;
+    let links = links(alloc, timed, layout)?;
+    let cells = limited(alloc, timed, layout, links)?;
     Ok(cells)
 }
 

@@ -4,22 +4,23 @@
 ghost use Rattle.std.specs.Prelude.{ℕ, ◌≡◌, ◌<◌, ◌≤◌, ◌+◌, ◌++◌, ◌^◌, List as Items, All, AllPairs, IfOk, OnOk, Some, slice_get, length, filter};
 ghost use Rattle.av_flat.specs.Broadcasts.{references};
 ghost use Rattle.av_flat.specs.Legal.{IsLegal};
+ghost use Rattle.av_flat.specs.Nodes.{nodes};
 ghost use Rattle.av_flat.specs.Points.{has};
 ghost use Rattle.av_flat.specs.Trees.{reference, view, view_system};
 ghost use Rattle.av_depend.specs.SetPoints.{IsPointOf};
 ghost use Rattle.av_space.specs.declared.layout.Slot.{Slot as SlotSeen};
 ghost use Rattle.av_space.specs.Listings.{input_name, AreInLines};
 ghost use Rattle.av_space.specs.Ports.{ArePorts};
-ghost use Rattle.av_space.specs.Quantities.{IsOperatorCount};
 ghost use Rattle.av_space.specs.Occupancy.{IsCellBefore};
 ghost use Rattle.av_space.specs.inner.Feeding.{is_entered, lines_at, with_port, IsReadable, IsFirstOf};
-ghost use Rattle.av_space.specs.inner.NodePieces.{AreOfPiece, AreOwnSlots, IsNodePiece, IsPart, IsInputSite, ArePortsAt, ArePortsOf, IsSmallNode};
+ghost use Rattle.av_space.specs.inner.NodePieces.{AreOfPiece, AreOwnSlots, IsNodePiece, IsPart, IsInputSite, ArePortsAt, ArePortsOf};
 ghost use Rattle.av_space.specs.Layouts.{IsLayout};
 
 use crate::apart::slots_in;
 use crate::cells::{Cell, InPort};
 use crate::input_site::{InputSite, direction_of};
 use crate::layout::{Layout, Slot};
+use crate::linking::piece_at;
 use crate::node_places::variable_of;
 use av_affine::Map;
 use av_base::{List, Memory, Name};
@@ -41,7 +42,7 @@ struct NodePiece<'a> {
     layout: &'a Layout,
     node: usize,
     piece: &'a Piece,
-    number: usize,
+    number: u32,
     first: usize,
     last: usize,
     /// Of each of the cells the computations that are points of the piece.
@@ -125,21 +126,20 @@ fn own_slots<'s>(at: &'s NodePiece, cell: usize) -> &'s [Slot]
 fn add_site(
     alloc: Global,
     at: &NodePiece,
-    number: usize,
+    number: u32,
     site: &InputSite,
     ports: &mut Ports,
 ) -> Result<(), Memory>
     requires at { IsNodePiece at.now }
     requires site { IsInputSite at.now number site.now }
-    requires few { number < 2 ^ 32 }
     requires old { ArePortsAt at.now number at.now.first ports.old }
     ensures { OnOk result (ArePortsAt at.now number at.now.last ports.new) }
 {
     for cell in at.first..at.last {
         let port = InPort {
             cell: cell as u32,
-            piece: at.number as u32,
-            site: number as u32,
+            piece: at.number,
+            site: number,
         };
         let slots = own_slots(at, cell);
         add_port(alloc, site, port, slots, ports)?;
@@ -151,7 +151,7 @@ fn add_site(
 fn add_reference(
     alloc: Global,
     at: &NodePiece,
-    number: usize,
+    number: u32,
     var: u32,
     map: &Map,
     ports: &mut Ports,
@@ -179,15 +179,15 @@ fn add_reference(
 // The ports of the references in the piece.
 fn add_piece(alloc: Global, at: &NodePiece, ports: &mut Ports) -> Result<(), Memory>
     requires at { IsNodePiece at.now }
-    requires part { IsPart at.now 0 (view at.now.piece.now.tree) }
     requires old { ArePortsAt at.now 0 at.now.first ports.old }
     ensures { OnOk result (ArePortsAt at.now
         (length (references (view at.now.piece.now.tree))) at.now.first ports.new) }
 {
     let piece = at.piece;
     let found = tree_references(alloc, &piece.tree)?;
-    for (number, reference) in found.as_slice().iter().enumerate() {
-        add_reference(alloc, at, number, reference.var, reference.map, ports)?;
+    for number in 0..found.len() {
+        let reference = &found.as_slice()[number];
+        add_reference(alloc, at, number as u32, reference.var, reference.map, ports)?;
     }
     Ok(())
 }
@@ -226,7 +226,7 @@ fn add_node(
 ) -> Result<(), Memory>
     requires legal { IsLegal timed.now }
     requires layout { IsLayout timed.now layout.now }
-    requires small { IsSmallNode (view_system timed.now.flat) node }
+    requires node { node < length (nodes (view_system timed.now.flat)) }
     requires first { IsFirstOf layout.now.cells node first }
     requires last { IsFirstOf layout.now.cells (node + 1) last }
     requires ordered { first ≤ last }
@@ -235,14 +235,15 @@ fn add_node(
     ensures { OnOk result (ArePortsOf timed.now layout.now (node + 1) 0 last ports.new) }
 {
     let var = variable_of(&timed.flat, layout.places.as_slice(), node);
-    for (number, piece) in var.pieces.as_slice().iter().enumerate() {
+    for number in 0..var.pieces.len() {
+        let piece = piece_at(var, number);
         let own = slots_of_piece(alloc, layout, piece, first, last)?;
         let at = NodePiece {
             timed,
             layout,
             node,
             piece,
-            number,
+            number: number as u32,
             first,
             last,
             own,
@@ -273,9 +274,6 @@ fn end_of(cells: &[Cell], node: usize, first: usize) -> usize
 fn add_nodes(alloc: Global, timed: &Timed, layout: &Layout, ports: &mut Ports) -> Result<(), Memory>
     requires legal { IsLegal timed.now }
     requires layout { IsLayout timed.now layout.now }
-    requires few { (m : ℕ)
-        × IsOperatorCount (view_system timed.now.flat) layout.now.placements layout.now.cells m
-        × (m ≤ 1048576) }
     requires none { ArePortsOf timed.now layout.now 0 0 0 ports.old }
     ensures ports { OnOk result (ArePorts (view_system timed.now.flat)
         timed.now.helpers layout.now.placements layout.now.cells ports.new.inputs) }
@@ -297,9 +295,6 @@ fn add_nodes(alloc: Global, timed: &Timed, layout: &Layout, ports: &mut Ports) -
 pub(crate) fn input_ports(alloc: Global, timed: &Timed, layout: &Layout) -> Result<Ports, Memory>
     requires legal { IsLegal timed.now }
     requires layout { IsLayout timed.now layout.now }
-    requires few { (m : ℕ)
-        × IsOperatorCount (view_system timed.now.flat) layout.now.placements layout.now.cells m
-        × (m ≤ 1048576) }
     ensures ports { IfOk result (λ p. ArePorts (view_system timed.now.flat)
         timed.now.helpers layout.now.placements layout.now.cells p.inputs) }
     ensures lines { IfOk result (λ p. AreInLines (view_system timed.now.flat)

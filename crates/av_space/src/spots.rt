@@ -60,7 +60,7 @@ fn pipeline(helpers: &[Helper], own: usize, place: &ReadingPlace<'_>) -> Option<
     ensures { result ≡ pipeline_by helpers.now own (place_of place.now) (view place.now.tree) }
 {
     match place.tree {
-        Tree::Ref { .. } => helper_at(helpers, own, place.piece, place.site as usize),
+        Tree::Ref { .. } => helper_at(helpers, own, place.piece, place.site),
         _ => None,
     }
 }

@@ -1,5 +1,5 @@
 -- Pieces of nodes with the cells of the node, references to inputs in them, and the ports that are found up to these.
-use Rattle.std.specs.Prelude.{◌≡◌, ℕ, ◌+◌, ◌<◌, ◌≤◌, ◌^◌, IsTrue, List, Some, slice_get, length, filter}
+use Rattle.std.specs.Prelude.{◌≡◌, ℕ, ◌+◌, ◌<◌, ◌≤◌, IsTrue, List, Some, slice_get, length, filter}
 use Rattle.av_flat.specs.declared.timed.Timed.{Timed}
 use Rattle.av_flat.specs.Trees.{Tree, Piece, Variable, FlatSystem, view_piece, view_variable, view_system}
 use Rattle.av_flat.specs.Broadcasts.{references}
@@ -40,7 +40,6 @@ pub record IsNodePiece (at : NodePiece) : Type 0 where
   pub variable : Variable
   pub is_variable : slice_get (nodes (view_system at.timed.now.flat)) at.node ≡ Some variable
   pub is_piece : slice_get variable.pieces at.number ≡ Some (view_piece at.piece.now)
-  pub few : at.number < 2 ^ 32
   pub first : IsFirstOf at.layout.now.cells at.node at.first
   pub last : IsFirstOf at.layout.now.cells (at.node + 1) at.last
   pub ordered : at.first ≤ at.last
@@ -52,7 +51,6 @@ pub record IsPart (at : NodePiece) (j : ℕ) (t : Tree) : Type 0 where
   pub stand : StandAt j (references t) (references (view_piece at.piece.now).tree)
   pub fits : Fits (signatures (view_system at.timed.now.flat)) at.piece.now.domain.dim t
   pub rows : EachPart HasSmallRows t
-  pub few : j + length (references t) < 2 ^ 32
 
 -- the reference with this number in the piece
 pub record IsInputSite (at : NodePiece) (j : ℕ) (site : InputSite) : Type 0 where
@@ -63,10 +61,3 @@ pub record IsInputSite (at : NodePiece) (j : ℕ) (site : InputSite) : Type 0 wh
   pub is_read : slice_get (view_system at.timed.now.flat).variables place ≡ Some (view_variable site.input.now)
   pub kind : IsTrue (is_input site.input.now.kind)
   pub readable : IsReadable site.domain.now site.direction site.map.now
-
--- numbers of pieces and references have 32 bits
-pub record IsSmallNode (s : FlatSystem) (n : ℕ) : Type 0 where
-  pub variable : Variable
-  pub is_variable : slice_get (nodes s) n ≡ Some variable
-  pub few : length variable.pieces < 2 ^ 32
-  pub short : (k : ℕ) (piece : Piece) → slice_get variable.pieces k ≡ Some piece → length (references piece.tree) < 2 ^ 32

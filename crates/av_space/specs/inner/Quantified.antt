@@ -9,10 +9,6 @@ use Rattle.av_space.specs.declared.cells.Cells.{Cells}
 use Rattle.av_space.specs.Arrays.{IsArrayOf}
 use Rattle.av_space.specs.Quantities.{IsOperatorCount}
 
--- at most so many operators
-abbrev pub HasOperators : Timed → Layout → ℕ → Type 0
-HasOperators t l limit = (m : ℕ) × IsOperatorCount (view_system t.flat) l.placements l.cells m × (m ≤ limit)
-
 abbrev pub LinksOf : Timed → Layout → List Link → Type 0
 LinksOf t l links = AreLinks (view_system t.flat) t.helpers l.placements l.cells links
 
@@ -23,10 +19,10 @@ delays_of t l links = delay_count (view_system t.flat) t.helpers l.cells links
 pub record AreWithin (t : Timed) (l : Layout) (links : List Link) : Type 0 where
   pub delays : delays_of t l links ≤ 32768
   pub links_are : length links ≤ 16384
-  pub operators : HasOperators t l 1048576
+  pub operators : (m : ℕ) × IsOperatorCount (view_system t.flat) l.placements l.cells m × (m ≤ 1048576)
 
--- the array on these cells, with these links
-pub record IsLaidOut (t : Timed) (l : Layout) (links : List Link) (a : Cells) : Type 0 where
+-- the array of the system, with few enough ports and cells
+pub record IsLaidOut (t : Timed) (a : Cells) : Type 0 where
   pub array : IsArrayOf t a
   pub few_inputs : length a.inputs ≤ 2 ^ 64
   pub few_outputs : length a.outputs ≤ 2 ^ 64

@@ -1,12 +1,10 @@
-use Rattle.std.proofs.Common.{refl, sym, ap, subst, ◌∙◌, get_or}
+use Rattle.std.proofs.Common.{refl, ap, get_or}
 use Rattle.std.specs.Prelude.{unwrap_or}
 use Rattle.std.specs.Map.{lookup}
 use Rattle.std.specs.Ordering.{is_eq}
 use Rattle.av_flat.specs.Trees.{view_system}
 use Rattle.av_space.specs.declared.cells.Link.{Link}
-use Rattle.av_space.specs.Links.{IsStretch}
 use Rattle.av_space.specs.Lengths.{line_cmp}
-use Rattle.av_space.specs.inner.Lengths.{line_of}
 use Rattle.av_space.proofs.LinkLines.{one_line_more}
 use Rattle.av_space.proofs.lines.line_lengths.Goals as goal
 
@@ -16,10 +14,8 @@ none = record { consumer = 0; producer = 0; site = 0; delay = 0; first = 0; last
 pub loop-link-init : goal.loop-link-init
 loop-link-init c = λ q. ap (λ es. unwrap_or (lookup (λ k. is_eq (line_cmp q k)) es) 0) c.new-lengths.ensures.empty
 
-pub line_of-line-requires-clause-stretch : goal.line_of-line-requires-clause-stretch
-line_of-line-requires-clause-stretch c =
-    subst (IsStretch (view_system c.args.timed.now.flat) c.args.timed.now.helpers c.args.layout.now.placements c.args.layout.now.cells) (sym c.of_link.ensures)
-    (c.requires.links.each c.loop-link.link-index none c.loop-link-test.true)
+pub line_of-line-requires-clause-link : goal.line_of-line-requires-clause-link
+line_of-line-requires-clause-link c = c.requires.links.each c.loop-link.link-index none c.loop-link-test.true
 
 pub loop-link-preserved : goal.loop-link-preserved
 loop-link-preserved c =
@@ -27,4 +23,4 @@ loop-link-preserved c =
     let hs = c.args.timed.now.helpers in
     let cells = c.args.layout.now.cells in
     one_line_more s hs cells c.args.links.now c.loop-link.link-index none c.loop-link-test.true c.loop-link.lengths c.lengthened.new.lengths c.line_of-line.result
-    (c.line_of-line.ensures ∙ ap (line_of s hs cells) c.of_link.ensures) (get_or c.args.links.now c.loop-link.link-index none).delay refl c.loop-link.invariant c.in_ok-lengthened.ensures.all
+    c.line_of-line.ensures (get_or c.args.links.now c.loop-link.link-index none).delay refl c.loop-link.invariant c.in_ok-lengthened.ensures.all

@@ -3,18 +3,15 @@ use Rattle.std.proofs.lemmas.Option.{slice_get_within}
 use Rattle.av_flat.specs.Nodes.{nodes}
 use Rattle.av_flat.specs.Trees.{view_system}
 use Rattle.av_space.proofs.Fed.{all_ports}
-use Rattle.av_space.proofs.NodeParts.{small_node}
 use Rattle.av_flat.proofs.NodeNumbers.{places_number}
 use Rattle.av_space.proofs.ports.add_nodes.Goals as goal
 
-pub add_node-requires-clause-small : goal.add_node-requires-clause-small
-add_node-requires-clause-small c =
-    let t = c.args.timed.now in
-    let l = c.args.layout.now in
+pub add_node-requires-clause-node : goal.add_node-requires-clause-node
+add_node-requires-clause-node c =
     let w : c.loop-node.node < length c.as_slice-node-end.result.now = search rules in
-    let within : c.loop-node.node < length (nodes (view_system t.flat)) =
-    (let a = ap (λ (xs : List ℕ). length xs) c.as_slice-node-end.ensures in let b = places_number (view_system t.flat) l.places c.requires.layout.places in omega (arith, w, a, b)) in
-    small_node t l c.loop-node.node c.requires.legal c.requires.layout c.requires.few within
+    let a = ap (λ (xs : List ℕ). length xs) c.as_slice-node-end.ensures in
+    let b = places_number (view_system c.args.timed.now.flat) c.args.layout.now.places c.requires.layout.places in
+    omega (arith, w, a, b)
 
 pub returns-clause-ports : goal.returns-clause-ports
 returns-clause-ports c =

@@ -10,7 +10,7 @@ use Rattle.av_space.proofs.OwnSlots.{pieces_of_consumer}
 use Rattle.av_space.proofs.JoinedLinks.{below_more_cells}
 use Rattle.av_space.proofs.NodeTaps.{taps_at_node}
 use Rattle.av_space.proofs.SiteLinks.{are_links}
-use Rattle.av_space.proofs.linking.stretches.Goals as goal
+use Rattle.av_space.proofs.linking.links.Goals as goal
 
 pub taps_of_node-own-requires : goal.taps_of_node-own-requires
 taps_of_node-own-requires c =
@@ -19,8 +19,8 @@ taps_of_node-own-requires c =
     let e = ap (λ (ts : List (List TapMade)). length ts) c.as_slice.ensures in
     omega (arith, l, e)
 
-pub cell_stretches-requires-clause-sites : goal.cell_stretches-requires-clause-sites
-cell_stretches-requires-clause-sites c =
+pub cell_links-requires-clause-sites : goal.cell_links-requires-clause-sites
+cell_links-requires-clause-sites c =
     let x = c.consumer_at-consumer.result in
     let at = (taps_at_node (view_system c.args.timed.now.flat) c.args.timed.now.helpers c.in_ok-sites.sites c.in_ok-sites.ensures x.node (view_variable x.var.now) c.consumer_at-consumer.ensures.consumer.is_variable []).1 in
     ap (λ (ts : List TapMade). map tap_of ts) (c.taps_of_node-own.ensures ∙ ap (λ (ts : List (List TapMade)). get_or ts x.node []) c.as_slice.ensures) ∙ at
@@ -30,19 +30,19 @@ slots_of_pieces-requires c =
     let x = c.consumer_at-consumer.result in
     pieces_of_consumer c.args.timed.now c.args.layout.now x.number x.node (view_variable x.var.now) x.slots.now c.requires.legal c.requires.layout c.consumer_at-consumer.ensures.consumer
 
-pub cell_stretches-requires-clause-own : goal.cell_stretches-requires-clause-own
-cell_stretches-requires-clause-own c =
+pub cell_links-requires-clause-own : goal.cell_links-requires-clause-own
+cell_links-requires-clause-own c =
     let x = c.consumer_at-consumer.result in
     subst (λ (own : List (List Slot)). AreOwn (view_variable x.var.now) x.slots.now own) (sym c.as_slice-in-loop-number.ensures) c.in_ok-slots.ensures
 
 pub loop-number-preserved : goal.loop-number-preserved
 loop-number-preserved c =
     let T = IsTapped (view_system c.args.timed.now.flat) c.args.timed.now.helpers c.args.layout.now.placements c.args.layout.now.cells in
-    below_more_cells T c.loop-number.number [] c.loop-number.stretches c.cell_stretches.new.stretches c.loop-number.invariant
-    (subst (λ (p : ℕ). HasLinks T (IsOn p) c.loop-number.stretches c.cell_stretches.new.stretches) c.consumer_at-consumer.ensures.number c.in_ok-cell_stretches.ensures)
+    below_more_cells T c.loop-number.number [] c.loop-number.links c.cell_links.new.links c.loop-number.invariant
+    (subst (λ (p : ℕ). HasLinks T (IsOn p) c.loop-number.links c.cell_links.new.links) c.consumer_at-consumer.ensures.number c.in_ok-cell_links.ensures)
 
 pub returns : goal.returns
 returns c =
     let done = c.loop-number-test.false in
     let all = ap (λ (l : List Cell). length l) c.as_slice-number-end.ensures in
-    are_links (view_system c.args.timed.now.flat) c.args.timed.now.helpers c.args.layout.now.placements c.args.layout.now.cells c.loop-number.number c.loop-number.stretches (omega (arith, done, all)) c.loop-number.invariant
+    are_links (view_system c.args.timed.now.flat) c.args.timed.now.helpers c.args.layout.now.placements c.args.layout.now.cells c.loop-number.number c.loop-number.links (omega (arith, done, all)) c.loop-number.invariant

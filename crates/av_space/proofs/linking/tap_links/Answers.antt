@@ -13,7 +13,7 @@ use Rattle.av_flat.proofs.NodeNumbers.{chained_node}
 use Rattle.av_space.proofs.FineSites.{fine_tap}
 use Rattle.av_space.proofs.OwnSlots.{readings_of_own}
 use Rattle.av_space.proofs.SiteLinks.{site_on, site_links}
-use Rattle.av_space.proofs.linking.tap_stretches.Goals as goal
+use Rattle.av_space.proofs.linking.tap_links.Goals as goal
 use Rattle.av_base.proofs.Lists.{some_is}
 
 pub piece_at-piece-requires : goal.piece_at-piece-requires
@@ -59,21 +59,21 @@ readings-requires-clause-site c = record {
   };
 }
 
-pub site_stretches-requires : goal.site_stretches-requires
-site_stretches-requires c = subst AreByCycle (sym c.as_slice.ensures) c.in_ok-readings.ensures.order
+pub site_links-requires : goal.site_links-requires
+site_links-requires c = subst AreByCycle (sym c.as_slice.ensures) c.in_ok-readings.ensures.order
 
 pub returns : goal.returns
 returns c =
     let p = c.args.consumer.now.number in
-    let old = c.args.stretches.now in
-    let new = c.site_stretches.new.stretches in
+    let old = c.args.links.now in
+    let new = c.site_links.new.links in
     let site = site_on (view_system c.args.timed.now.flat) c.args.timed.now.helpers c.args.layout.now.placements c.args.layout.now.cells p c.args.number c.args.consumer.now.node
     (view_variable c.args.consumer.now.var.now) c.args.consumer.now.slots.now c.requires.consumer (tap_of c.args.site.now) c.requires.site c.piece-place.result c.piece-place.ensures (view_piece c.piece_at-piece.result.now) c.piece_at-piece.ensures in
     let piece = view_piece c.piece_at-piece.result.now in
     let own_is = c.requires.own.each c.piece-place.result piece c.slots_at-slots.result.now c.piece_at-piece.ensures c.slots_at-slots.ensures in
     let readings = readings_of_own (view_system c.args.timed.now.flat) c.args.layout.now.placements c.args.layout.now.cells c.args.consumer.now.node (tap_of c.args.site.now) piece c.args.consumer.now.slots.now c.slots_at-slots.result.now own_is
     c.in_ok-readings.readings c.in_ok-readings.ensures in
-    on_ok_weaker c.site_stretches.result
+    on_ok_weaker c.site_links.result
     (λ h. site_links c.args.timed.now c.args.layout.now c.requires.legal c.requires.layout p c.args.number c.args.consumer.now.node (tap_of c.args.site.now) (view_piece c.piece_at-piece.result.now) c.args.consumer.now.slots.now site
     c.in_ok-readings.readings readings old new (subst (λ (rs : List TapReading). HasLinks (Told rs) (IsAt p c.args.number) old new) c.as_slice.ensures h))
-    c.site_stretches.ensures
+    c.site_links.ensures
