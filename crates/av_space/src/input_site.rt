@@ -27,12 +27,7 @@ pub(crate) struct InputSite<'a> {
 }
 
 /// The direction of the helper of a reference.
-pub(crate) fn direction_of(
-    helpers: &[Helper],
-    place: usize,
-    piece: u32,
-    site: u32,
-) -> Option<Point>
+pub(crate) fn direction_of(helpers: &[Helper], place: usize, piece: u32, site: u32) -> Option<Point>
     ensures { result ≡ direction_of (helper_at helpers.now place piece site) }
 {
     Some(helper_at(helpers, place, piece as usize, site)?.direction)

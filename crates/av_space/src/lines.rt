@@ -20,12 +20,7 @@ use std::alloc::Global;
 use std::collections::BTreeMap;
 
 // The line that a link reads.
-fn line_of(
-    timed: &Timed,
-    layout: &Layout,
-    sites: &[List<TapSite<'_>>],
-    link: &Link,
-) -> DelayLine
+fn line_of(timed: &Timed, layout: &Layout, sites: &[List<TapSite<'_>>], link: &Link) -> DelayLine
     requires sites { AreNodeTaps (view_system timed.now.flat) timed.now.helpers sites.now }
     requires link { IsStretch (view_system timed.now.flat)
         timed.now.helpers layout.now.placements layout.now.cells link.now }

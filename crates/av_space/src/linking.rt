@@ -168,7 +168,16 @@ fn cell_links(
 {
     for number in 0..sites.len() {
         let site = site_at(sites.as_slice(), number);
-        tap_links(alloc, timed, layout, consumer, number as u32, site, own, links)?;
+        tap_links(
+            alloc,
+            timed,
+            layout,
+            consumer,
+            number as u32,
+            site,
+            own,
+            links,
+        )?;
     }
     Ok(())
 }

@@ -187,7 +187,14 @@ fn add_piece(alloc: Global, at: &NodePiece, ports: &mut Ports) -> Result<(), Mem
     let found = tree_references(alloc, &piece.tree)?;
     for number in 0..found.len() {
         let reference = &found.as_slice()[number];
-        add_reference(alloc, at, number as u32, reference.var, reference.map, ports)?;
+        add_reference(
+            alloc,
+            at,
+            number as u32,
+            reference.var,
+            reference.map,
+            ports,
+        )?;
     }
     Ok(())
 }
