@@ -1,7 +1,7 @@
 -- Pieces of nodes with the cells of the node, references to inputs in them, and the ports that are found up to these.
 use Rattle.std.specs.Prelude.{◌≡◌, ℕ, ◌+◌, ◌<◌, ◌≤◌, IsTrue, List, Some, slice_get, length, filter}
 use Rattle.av_flat.specs.declared.timed.Timed.{Timed}
-use Rattle.av_flat.specs.Trees.{Tree, Piece, Variable, FlatSystem, view_piece, view_variable, view_system}
+use Rattle.av_flat.specs.Trees.{Tree, Variable, view_piece, view_variable, view_system}
 use Rattle.av_flat.specs.Broadcasts.{references}
 use Rattle.av_flat.specs.Nodes.{nodes, node_place}
 use Rattle.av_flat.specs.Points.{has}
