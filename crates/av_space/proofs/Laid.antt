@@ -12,7 +12,7 @@ use Rattle.av_flat.specs.declared.timed.Time.{Time}
 use Rattle.av_flat.specs.declared.timed.Timed.{Timed}
 use Rattle.av_flat.specs.Legal.{IsLegal}
 use Rattle.av_flat.specs.Trees.{Variable, FlatSystem, view_system}
-use Rattle.av_flat.specs.Nodes.{nodes, IsComputation, places_of, numbers_of}
+use Rattle.av_flat.specs.Nodes.{nodes, IsComputation}
 use Rattle.av_space.specs.declared.cells.Cell.{Cell}
 use Rattle.av_space.specs.declared.layout.Slot.{Slot}
 use Rattle.av_space.specs.declared.ranked.Ranked.{Ranked}
@@ -232,15 +232,13 @@ count_joined s placings n a b h k = record {
 pub placing_at : (t : Timed) (placings : List Placing) (n : ℕ) (p : Placing) → IsLegal t → ArePlacings t.times placings → n < length placings → p ≡ get_or placings n p → slice_get placings n ≡ Some p
 placing_at t placings n p h are l e = slice_get-get_or placings n p l ∙ ap Some (sym e)
 
-pub made_layout : (t : Timed) (l : Layout) → IsLegal t → ArePlacings t.times l.placements → l.places ≡ places_of (view_system t.flat) → l.numbers ≡ numbers_of (view_system t.flat) → IsCycles t l.cycles → l.cycles ≤ 4096
+pub made_layout : (t : Timed) (l : Layout) → IsLegal t → ArePlacings t.times l.placements → IsCycles t l.cycles → l.cycles ≤ 4096
     → (n : ℕ) → length (nodes (view_system t.flat)) ≤ n → AreCellsIn (view_system t.flat) l.placements 0 n l.cells → AreFilled (view_system t.flat) l.placements l.cells l.slots
     → length l.cells ≤ 2048 → IsLayout t l
-made_layout t l h placings places numbers cycles limit n whole are filled few =
+made_layout t l h placings cycles limit n whole are filled few =
     let own = all_cells (view_system t.flat) l.placements n l.cells whole are in
     record {
       are_placings = placings;
-      places = places;
-      numbers = numbers;
       are_cells = own;
       few_cells = few;
       cycle_count = cycles;

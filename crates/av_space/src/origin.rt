@@ -12,6 +12,7 @@ use crate::array::Array;
 use crate::cells::{Cell, InPort};
 use crate::layout::Slot;
 use crate::linking::reading_at;
+use crate::scheduled::ScheduledSystem;
 use crate::spots::{Site, Spot};
 use crate::stretch::TapReading;
 use crate::tap::{Pipeline, TapSite, Way};
@@ -99,7 +100,11 @@ impl Array<'_> {
         ensures { MatchOption result (IsReadThere self.now spot.now (tap_of tap.now) slot.now → ⊥)
             (λ r. IsReadOver self.now spot.now (tap_of tap.now) slot.now r.producer r.delay) }
     {
-        reading_at(self.timed, &self.layout, spot.node, tap, spot.piece, slot)
+        let scheduled = ScheduledSystem {
+            timed: &self.nodes,
+            layout: &self.layout,
+        };
+        reading_at(&scheduled, spot.node, tap, spot.piece, slot)
     }
 
     // The input port of a reference that is read at a computation.

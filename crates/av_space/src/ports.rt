@@ -3,10 +3,9 @@
 
 ghost use Rattle.std.specs.Prelude.{ℕ, ◌≡◌, ◌<◌, ◌≤◌, ◌+◌, ◌++◌, ◌^◌, List as Items, All, AllPairs, IfOk, OnOk, Some, slice_get, length, filter};
 ghost use Rattle.av_flat.specs.Broadcasts.{references};
-ghost use Rattle.av_flat.specs.Legal.{IsLegal};
 ghost use Rattle.av_flat.specs.Nodes.{nodes};
 ghost use Rattle.av_flat.specs.Points.{has};
-ghost use Rattle.av_flat.specs.Trees.{reference, view, view_system};
+ghost use Rattle.av_flat.specs.Trees.{reference, view};
 ghost use Rattle.av_depend.specs.SetPoints.{IsPointOf};
 ghost use Rattle.av_space.specs.declared.layout.Slot.{Slot as SlotSeen};
 ghost use Rattle.av_space.specs.Listings.{input_name, AreInLines};
@@ -14,17 +13,17 @@ ghost use Rattle.av_space.specs.Ports.{ArePorts};
 ghost use Rattle.av_space.specs.Occupancy.{IsCellBefore};
 ghost use Rattle.av_space.specs.inner.Feeding.{is_entered, lines_at, with_port, IsReadable, IsFirstOf};
 ghost use Rattle.av_space.specs.inner.NodePieces.{AreOfPiece, AreOwnSlots, IsNodePiece, IsPart, IsInputSite, ArePortsAt, ArePortsOf};
-ghost use Rattle.av_space.specs.Layouts.{IsLayout};
+ghost use Rattle.av_space.specs.inner.Scheduled.{IsScheduled, system_of, helpers_of, placings_of, cells_of};
 
 use crate::apart::slots_in;
 use crate::cells::{Cell, InPort};
 use crate::input_site::{InputSite, direction_of};
 use crate::layout::{Layout, Slot};
 use crate::linking::piece_at;
-use crate::node_places::variable_of;
+use crate::scheduled::ScheduledSystem;
 use av_affine::Map;
 use av_base::{List, Memory, Name};
-use av_flat::{Piece, Timed, tree_references};
+use av_flat::{Piece, tree_references};
 use av_net::Entry;
 use std::alloc::Global;
 
@@ -37,9 +36,8 @@ pub(crate) struct Ports {
 
 // A piece of a node, and the cells of the node.
 #[derive(Drop)]
-struct NodePiece<'a> {
-    timed: &'a Timed,
-    layout: &'a Layout,
+struct NodePiece<'s, 'a> {
+    scheduled: &'s ScheduledSystem<'a>,
     node: usize,
     piece: &'a Piece,
     number: u32,
@@ -114,8 +112,9 @@ fn own_slots<'s>(at: &'s NodePiece, cell: usize) -> &'s [Slot]
     requires at { IsNodePiece at.now }
     requires low { at.now.first ≤ cell }
     requires high { cell < at.now.last }
-    ensures { (slots : Items SlotSeen) → slice_get at.now.layout.now.slots cell ≡ Some slots
-        → result.now ≡ filter (λ t. has at.now.piece.now.domain t.point) slots }
+    ensures { (slots : Items SlotSeen)
+        → slice_get at.now.scheduled.now.layout.now.slots cell ≡ Some slots → result.now
+        ≡ filter (λ t. has at.now.piece.now.domain t.point) slots }
 {
     let own = at.own.as_slice();
     let place = cell - at.first;
@@ -161,12 +160,14 @@ fn add_reference(
     requires old { ArePortsAt at.now number at.now.first ports.old }
     ensures { OnOk result (ArePortsAt at.now (number + 1) at.now.first ports.new) }
 {
-    let input = &at.timed.flat.vars.as_slice()[var as usize];
+    let nodes = at.scheduled.timed;
+    let timed = nodes.system();
+    let input = &timed.flat.vars.as_slice()[var as usize];
     if input.kind.is_computed() {
         return Ok(());
     }
-    let place = at.layout.places.as_slice()[at.node];
-    let helpers = at.timed.helpers.as_slice();
+    let place = nodes.place(at.node);
+    let helpers = timed.helpers.as_slice();
     let site = InputSite {
         domain: &at.piece.domain,
         direction: direction_of(helpers, place, at.number, number),
@@ -224,30 +225,27 @@ fn slots_of_piece(
 // The ports of a node with these cells.
 fn add_node(
     alloc: Global,
-    timed: &Timed,
-    layout: &Layout,
+    scheduled: &ScheduledSystem<'_>,
     node: usize,
     first: usize,
     last: usize,
     ports: &mut Ports,
 ) -> Result<(), Memory>
-    requires legal { IsLegal timed.now }
-    requires layout { IsLayout timed.now layout.now }
-    requires node { node < length (nodes (view_system timed.now.flat)) }
-    requires first { IsFirstOf layout.now.cells node first }
-    requires last { IsFirstOf layout.now.cells (node + 1) last }
+    requires scheduled { IsScheduled scheduled.now }
+    requires node { node < length (nodes (system_of scheduled.now)) }
+    requires first { IsFirstOf (cells_of scheduled.now) node first }
+    requires last { IsFirstOf (cells_of scheduled.now) (node + 1) last }
     requires ordered { first ≤ last }
-    requires within { last ≤ length layout.now.cells }
-    requires old { ArePortsOf timed.now layout.now node 0 first ports.old }
-    ensures { OnOk result (ArePortsOf timed.now layout.now (node + 1) 0 last ports.new) }
+    requires within { last ≤ length (cells_of scheduled.now) }
+    requires old { ArePortsOf scheduled.now node 0 first ports.old }
+    ensures { OnOk result (ArePortsOf scheduled.now (node + 1) 0 last ports.new) }
 {
-    let var = variable_of(&timed.flat, layout.places.as_slice(), node);
+    let var = scheduled.timed.variable(node);
     for number in 0..var.pieces.len() {
         let piece = piece_at(var, number);
-        let own = slots_of_piece(alloc, layout, piece, first, last)?;
+        let own = slots_of_piece(alloc, scheduled.layout, piece, first, last)?;
         let at = NodePiece {
-            timed,
-            layout,
+            scheduled,
             node,
             piece,
             number: number as u32,
@@ -278,40 +276,42 @@ fn end_of(cells: &[Cell], node: usize, first: usize) -> usize
 }
 
 // Puts the ports of all nodes into the lists.
-fn add_nodes(alloc: Global, timed: &Timed, layout: &Layout, ports: &mut Ports) -> Result<(), Memory>
-    requires legal { IsLegal timed.now }
-    requires layout { IsLayout timed.now layout.now }
-    requires none { ArePortsOf timed.now layout.now 0 0 0 ports.old }
-    ensures ports { OnOk result (ArePorts (view_system timed.now.flat)
-        timed.now.helpers layout.now.placements layout.now.cells ports.new.inputs) }
-    ensures lines { OnOk result (AreInLines (view_system timed.now.flat)
-        timed.now.helpers layout.now.placements layout.now.cells ports.new.inputs ports.new.ins) }
+fn add_nodes(
+    alloc: Global,
+    scheduled: &ScheduledSystem<'_>,
+    ports: &mut Ports,
+) -> Result<(), Memory>
+    requires scheduled { IsScheduled scheduled.now }
+    requires none { ArePortsOf scheduled.now 0 0 0 ports.old }
+    ensures ports { OnOk result (ArePorts (system_of scheduled.now) (helpers_of scheduled.now)
+        (placings_of scheduled.now) (cells_of scheduled.now) ports.new.inputs) }
+    ensures lines { OnOk result (AreInLines (system_of scheduled.now) (helpers_of scheduled.now)
+        (placings_of scheduled.now) (cells_of scheduled.now) ports.new.inputs ports.new.ins) }
     ensures few { OnOk result (length ports.new.inputs ≤ 2 ^ 64) }
 {
-    let cells = layout.cells.as_slice();
+    let cells = scheduled.layout.cells.as_slice();
     let mut first = 0;
-    for node in 0..layout.places.as_slice().len() {
+    for node in 0..scheduled.timed.len() {
         let last = end_of(cells, node, first);
-        add_node(alloc, timed, layout, node, first, last, ports)?;
+        add_node(alloc, scheduled, node, first, last, ports)?;
         first = last;
     }
     Ok(())
 }
 
 /// The input ports of the array of a legal system, in order, and the lines of the reads at them.
-pub(crate) fn input_ports(alloc: Global, timed: &Timed, layout: &Layout) -> Result<Ports, Memory>
-    requires legal { IsLegal timed.now }
-    requires layout { IsLayout timed.now layout.now }
-    ensures ports { IfOk result (λ p. ArePorts (view_system timed.now.flat)
-        timed.now.helpers layout.now.placements layout.now.cells p.inputs) }
-    ensures lines { IfOk result (λ p. AreInLines (view_system timed.now.flat)
-        timed.now.helpers layout.now.placements layout.now.cells p.inputs p.ins) }
+pub(crate) fn input_ports(alloc: Global, scheduled: &ScheduledSystem<'_>) -> Result<Ports, Memory>
+    requires scheduled { IsScheduled scheduled.now }
+    ensures ports { IfOk result (λ p. ArePorts (system_of scheduled.now)
+        (helpers_of scheduled.now) (placings_of scheduled.now) (cells_of scheduled.now) p.inputs) }
+    ensures lines { IfOk result (λ p. AreInLines (system_of scheduled.now)
+        (helpers_of scheduled.now) (placings_of scheduled.now) (cells_of scheduled.now) p.inputs p.ins) }
     ensures few { IfOk result (λ p. length p.inputs ≤ 2 ^ 64) }
 {
     let mut ports = Ports {
         inputs: List::new(alloc),
         ins: List::new(alloc),
     };
-    add_nodes(alloc, timed, layout, &mut ports)?;
+    add_nodes(alloc, scheduled, &mut ports)?;
     Ok(ports)
 }

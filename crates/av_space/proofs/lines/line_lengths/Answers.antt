@@ -19,8 +19,8 @@ line_of-line-requires-clause-link c = c.requires.links.each c.loop-link.link-ind
 
 pub loop-link-preserved : goal.loop-link-preserved
 loop-link-preserved c =
-    let s = view_system c.args.timed.now.flat in
-    let hs = c.args.timed.now.helpers in
-    let cells = c.args.layout.now.cells in
+    let s = view_system c.args.scheduled.now.timed.now.flat in
+    let hs = c.args.scheduled.now.timed.now.helpers in
+    let cells = c.args.scheduled.now.layout.now.cells in
     one_line_more s hs cells c.args.links.now c.loop-link.link-index none c.loop-link-test.true c.loop-link.lengths c.lengthened.new.lengths c.line_of-line.result
     c.line_of-line.ensures (get_or c.args.links.now c.loop-link.link-index none).delay refl c.loop-link.invariant c.in_ok-lengthened.ensures.all

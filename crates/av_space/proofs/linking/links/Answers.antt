@@ -15,20 +15,20 @@ use Rattle.av_space.proofs.linking.links.Goals as goal
 pub taps_of_node-own-requires : goal.taps_of_node-own-requires
 taps_of_node-own-requires c =
     let x = c.consumer_at-consumer.result in
-    let l = (taps_at_node (view_system c.args.timed.now.flat) c.args.timed.now.helpers c.in_ok-sites.sites c.in_ok-sites.ensures x.node (view_variable x.var.now) c.consumer_at-consumer.ensures.consumer.is_variable []).0 in
+    let l = (taps_at_node (view_system c.args.scheduled.now.timed.now.flat) c.args.scheduled.now.timed.now.helpers c.in_ok-sites.sites c.in_ok-sites.ensures x.node (view_variable x.var.now) c.consumer_at-consumer.ensures.consumer.is_variable []).0 in
     let e = ap (λ (ts : List (List TapMade)). length ts) c.as_slice.ensures in
     omega (arith, l, e)
 
 pub cell_links-requires-clause-sites : goal.cell_links-requires-clause-sites
 cell_links-requires-clause-sites c =
     let x = c.consumer_at-consumer.result in
-    let at = (taps_at_node (view_system c.args.timed.now.flat) c.args.timed.now.helpers c.in_ok-sites.sites c.in_ok-sites.ensures x.node (view_variable x.var.now) c.consumer_at-consumer.ensures.consumer.is_variable []).1 in
+    let at = (taps_at_node (view_system c.args.scheduled.now.timed.now.flat) c.args.scheduled.now.timed.now.helpers c.in_ok-sites.sites c.in_ok-sites.ensures x.node (view_variable x.var.now) c.consumer_at-consumer.ensures.consumer.is_variable []).1 in
     ap (λ (ts : List TapMade). map tap_of ts) (c.taps_of_node-own.ensures ∙ ap (λ (ts : List (List TapMade)). get_or ts x.node []) c.as_slice.ensures) ∙ at
 
 pub slots_of_pieces-requires : goal.slots_of_pieces-requires
 slots_of_pieces-requires c =
     let x = c.consumer_at-consumer.result in
-    pieces_of_consumer c.args.timed.now c.args.layout.now x.number x.node (view_variable x.var.now) x.slots.now c.requires.legal c.requires.layout c.consumer_at-consumer.ensures.consumer
+    pieces_of_consumer c.args.scheduled.now.timed.now c.args.scheduled.now.layout.now x.number x.node (view_variable x.var.now) x.slots.now c.requires.scheduled.legal c.requires.scheduled.layout c.consumer_at-consumer.ensures.consumer
 
 pub cell_links-requires-clause-own : goal.cell_links-requires-clause-own
 cell_links-requires-clause-own c =
@@ -37,7 +37,7 @@ cell_links-requires-clause-own c =
 
 pub loop-number-preserved : goal.loop-number-preserved
 loop-number-preserved c =
-    let T = IsTapped (view_system c.args.timed.now.flat) c.args.timed.now.helpers c.args.layout.now.placements c.args.layout.now.cells in
+    let T = IsTapped (view_system c.args.scheduled.now.timed.now.flat) c.args.scheduled.now.timed.now.helpers c.args.scheduled.now.layout.now.placements c.args.scheduled.now.layout.now.cells in
     below_more_cells T c.loop-number.number [] c.loop-number.links c.cell_links.new.links c.loop-number.invariant
     (subst (λ (p : ℕ). HasLinks T (IsOn p) c.loop-number.links c.cell_links.new.links) c.consumer_at-consumer.ensures.number c.in_ok-cell_links.ensures)
 
@@ -45,4 +45,4 @@ pub returns : goal.returns
 returns c =
     let done = c.loop-number-test.false in
     let all = ap (λ (l : List Cell). length l) c.as_slice-number-end.ensures in
-    are_links (view_system c.args.timed.now.flat) c.args.timed.now.helpers c.args.layout.now.placements c.args.layout.now.cells c.loop-number.number c.loop-number.links (omega (arith, done, all)) c.loop-number.invariant
+    are_links (view_system c.args.scheduled.now.timed.now.flat) c.args.scheduled.now.timed.now.helpers c.args.scheduled.now.layout.now.placements c.args.scheduled.now.layout.now.cells c.loop-number.number c.loop-number.links (omega (arith, done, all)) c.loop-number.invariant

@@ -10,32 +10,32 @@ use Rattle.av_space.proofs.linking.reading_at.Goals as goal
 pub is_in-requires-clause-fits : goal.is_in-requires-clause-fits
 is_in-requires-clause-fits c =
     let s = c.requires.site in
-    (slot_point c.args.timed.now c.args.layout.now c.requires.legal c.requires.layout s.2.consumer s.2.number c.args.node (tap_of c.args.site.now) (view_piece c.args.piece.now) s.0 s.2.is c.args.slot.now.cycle c.args.slot.now.point s.1).0
+    (slot_point c.args.scheduled.now.timed.now c.args.scheduled.now.layout.now c.requires.scheduled.legal c.requires.scheduled.layout s.2.consumer s.2.number c.args.node (tap_of c.args.site.now) (view_piece c.args.piece.now) s.0 s.2.is c.args.slot.now.cycle c.args.slot.now.point s.1).0
 
 pub is_in-requires-clause-small : goal.is_in-requires-clause-small
 is_in-requires-clause-small c =
     let s = c.requires.site in
-    let h = (slot_point c.args.timed.now c.args.layout.now c.requires.legal c.requires.layout s.2.consumer s.2.number c.args.node (tap_of c.args.site.now) (view_piece c.args.piece.now) s.0 s.2.is c.args.slot.now.cycle c.args.slot.now.point s.1).1 in
+    let h = (slot_point c.args.scheduled.now.timed.now c.args.scheduled.now.layout.now c.requires.scheduled.legal c.requires.scheduled.layout s.2.consumer s.2.number c.args.node (tap_of c.args.site.now) (view_piece c.args.piece.now) s.0 s.2.is c.args.slot.now.cycle c.args.slot.now.point s.1).1 in
     All-weaker (λ x. unsigned_abs x ≤ 4095) (λ x. unsigned_abs x ≤ 2 ^ 25) (λ x k. omega (arith, k)) c.args.slot.now.point h
 
 pub read_at-requires-clause-point : goal.read_at-requires-clause-point
 read_at-requires-clause-point c =
     let s = c.requires.site in
-    let h = (slot_point c.args.timed.now c.args.layout.now c.requires.legal c.requires.layout s.2.consumer s.2.number c.args.node (tap_of c.args.site.now) (view_piece c.args.piece.now) s.0 s.2.is c.args.slot.now.cycle c.args.slot.now.point s.1).1 in
+    let h = (slot_point c.args.scheduled.now.timed.now c.args.scheduled.now.layout.now c.requires.scheduled.legal c.requires.scheduled.layout s.2.consumer s.2.number c.args.node (tap_of c.args.site.now) (view_piece c.args.piece.now) s.0 s.2.is c.args.slot.now.cycle c.args.slot.now.point s.1).1 in
     record { within = sym c.is_in.ensures ∙ c.if-not-is_in.false; entries = h }
 
 pub locate-located-requires-clause-computation : goal.locate-located-requires-clause-computation
 locate-located-requires-clause-computation c =
     let s = c.requires.site in
     let inside : IsTrue (has c.args.piece.now.domain c.args.slot.now.point) = sym c.is_in.ensures ∙ c.if-not-is_in.false in
-    (read_before c.args.timed.now c.args.layout.now c.requires.legal c.requires.layout s.2.consumer s.2.number c.args.node (tap_of c.args.site.now) (view_piece c.args.piece.now) s.0 s.2.is c.args.slot.now.cycle c.args.slot.now.point s.1 inside
+    (read_before c.args.scheduled.now.timed.now c.args.scheduled.now.layout.now c.requires.scheduled.legal c.requires.scheduled.layout s.2.consumer s.2.number c.args.node (tap_of c.args.site.now) (view_piece c.args.piece.now) s.0 s.2.is c.args.slot.now.cycle c.args.slot.now.point s.1 inside
     c.in_ok-read.read.node c.in_ok-read.read.point c.in_ok-read.ensures).5.stands.computation
 
 pub overflow_sub-result : goal.overflow_sub-result
 overflow_sub-result c =
     let s = c.requires.site in
     let inside : IsTrue (has c.args.piece.now.domain c.args.slot.now.point) = sym c.is_in.ensures ∙ c.if-not-is_in.false in
-    reads_earlier c.args.timed.now c.args.layout.now c.requires.legal c.requires.layout s.2.consumer s.2.number c.args.node (tap_of c.args.site.now) (view_piece c.args.piece.now) s.0 s.2.is c.args.slot.now.cycle c.args.slot.now.point s.1 inside
+    reads_earlier c.args.scheduled.now.timed.now c.args.scheduled.now.layout.now c.requires.scheduled.legal c.requires.scheduled.layout s.2.consumer s.2.number c.args.node (tap_of c.args.site.now) (view_piece c.args.piece.now) s.0 s.2.is c.args.slot.now.cycle c.args.slot.now.point s.1 inside
     c.in_ok-read.read.node c.in_ok-read.read.point c.in_ok-read.ensures c.locate-located.result.cell c.locate-located.result.cycle c.locate-located.ensures
 
 pub returns : goal.returns
@@ -44,6 +44,6 @@ returns c =
     let inside : IsTrue (has c.args.piece.now.domain c.args.slot.now.point) = sym c.is_in.ensures ∙ c.if-not-is_in.false in
     record {
       cycle = search rules;
-      reading = only_reading c.args.timed.now c.args.layout.now c.requires.legal c.requires.layout s.2.consumer s.2.number c.args.node (tap_of c.args.site.now) (view_piece c.args.piece.now) s.0 s.2.is c.args.slot.now.cycle c.args.slot.now.point s.1 inside
+      reading = only_reading c.args.scheduled.now.timed.now c.args.scheduled.now.layout.now c.requires.scheduled.legal c.requires.scheduled.layout s.2.consumer s.2.number c.args.node (tap_of c.args.site.now) (view_piece c.args.piece.now) s.0 s.2.is c.args.slot.now.cycle c.args.slot.now.point s.1 inside
           c.in_ok-read.read.node c.in_ok-read.read.point c.in_ok-read.ensures c.locate-located.result.cell c.locate-located.result.cycle c.locate-located.ensures;
     }

@@ -6,31 +6,25 @@ use Rattle.av_space.specs.declared.ports.NodePiece.{NodePiece}
 use Rattle.av_space.specs.inner.NodePieces.{IsNodePiece}
 use Rattle.av_space.proofs.OwnSlots.{are_of_piece}
 use Rattle.av_space.proofs.Fed.{next_node}
-use Rattle.av_flat.proofs.NodeNumbers.{node_in_places}
 use Rattle.av_space.proofs.NodeParts.{piece_below, piece_passed}
 use Rattle.av_space.proofs.ports.add_node.Goals as goal
-
-pub variable_of-var-requires-clause-within : goal.variable_of-var-requires-clause-within
-variable_of-var-requires-clause-within c =
-    node_in_places (view_system c.args.timed.now.flat) c.as_slice.result.now c.args.node (c.as_slice.ensures ∙ c.requires.layout.places) c.requires.node
 
 pub slots_of_piece-requires-clause-slots : goal.slots_of_piece-requires-clause-slots
 slots_of_piece-requires-clause-slots c =
     let r = c.requires in
-    are_of_piece c.args.timed.now c.args.layout.now c.args.node c.loop-number.number c.args.first c.args.last (view_variable c.variable_of-var.result.now) (view_piece c.piece_at-piece.result.now) r.legal r.layout c.variable_of-var.ensures c.piece_at-piece.ensures
+    are_of_piece c.args.scheduled.now.timed.now c.args.scheduled.now.layout.now c.args.node c.loop-number.number c.args.first c.args.last (view_variable c.variable-var.result.now) (view_piece c.piece_at-piece.result.now) r.scheduled.legal r.scheduled.layout c.variable-var.ensures c.piece_at-piece.ensures
     r.first r.last r.within
 
 pub slots_of_piece-requires-clause-within : goal.slots_of_piece-requires-clause-within
-slots_of_piece-requires-clause-within c = let within = c.requires.within in let one_each = c.requires.layout.one_each in omega (arith, within, one_each)
+slots_of_piece-requires-clause-within c = let within = c.requires.within in let one_each = c.requires.scheduled.layout.one_each in omega (arith, within, one_each)
 
 pub add_piece-requires-clause-at : goal.add_piece-requires-clause-at
 add_piece-requires-clause-at c =
     let r = c.requires in
     record {
-      legal = r.legal;
-      layout = r.layout;
-      variable = view_variable c.variable_of-var.result.now;
-      is_variable = c.variable_of-var.ensures;
+      scheduled = r.scheduled;
+      variable = view_variable c.variable-var.result.now;
+      is_variable = c.variable-var.ensures;
       is_piece = c.piece_at-piece.ensures;
       first = r.first;
       last = r.last;
@@ -43,8 +37,7 @@ pub loop-number-preserved : goal.loop-number-preserved
 loop-number-preserved c =
     let r = c.requires in
     let at : NodePiece = record {
-      timed = c.args.timed;
-      layout = c.args.layout;
+      scheduled = c.args.scheduled;
       node = c.args.node;
       piece = c.piece_at-piece.result;
       number = c.loop-number.number;
@@ -53,10 +46,9 @@ loop-number-preserved c =
       own = c.in_ok-own.own;
     } in
     let is : IsNodePiece at = record {
-      legal = r.legal;
-      layout = r.layout;
-      variable = view_variable c.variable_of-var.result.now;
-      is_variable = c.variable_of-var.ensures;
+      scheduled = r.scheduled;
+      variable = view_variable c.variable-var.result.now;
+      is_variable = c.variable-var.ensures;
       is_piece = c.piece_at-piece.ensures;
       first = r.first;
       last = r.last;
@@ -68,12 +60,12 @@ loop-number-preserved c =
 
 pub returns : goal.returns
 returns c =
-    let t = c.args.timed.now in
-    let l = c.args.layout.now in
+    let t = c.args.scheduled.now.timed.now in
+    let l = c.args.scheduled.now.layout.now in
     let s = view_system t.flat in
-    let v = c.variable_of-var.result.now in
+    let v = c.variable-var.result.now in
     let over : c.len-number-end.result ≤ c.loop-number.number = search rules in
     let many : length (map view_piece v.pieces) ≤ c.loop-number.number =
     (let a : length (map view_piece v.pieces) ≡ length v.pieces = length-map v.pieces view_piece in let b = c.len-number-end.ensures.count in omega (arith, over, a, b)) in
     next_node s t.helpers l.placements l.cells c.args.node c.loop-number.number c.args.first c.args.last c.loop-number.ports c.requires.last
-    (λ port h e. let b = piece_below s t.helpers l.placements l.cells c.args.node (view_variable v) c.variable_of-var.ensures port h e in omega (arith, b, many)) c.loop-number.invariant
+    (λ port h e. let b = piece_below s t.helpers l.placements l.cells c.args.node (view_variable v) c.variable-var.ensures port h e in omega (arith, b, many)) c.loop-number.invariant
