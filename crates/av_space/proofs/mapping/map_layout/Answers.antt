@@ -12,7 +12,7 @@ use Rattle.av_space.proofs.mapping.map_layout.Goals as goal
 pub mapped-requires : goal.mapped-requires
 mapped-requires c =
     let same = sym c.in_ok-nodes.ensures in
-    record { legal = subst IsLegal same c.requires.legal; layout = subst (λ (t : Timed). IsLayout t c.args.layout.now) same c.requires.layout }
+    record { scheduled = record { legal = subst IsLegal same c.requires.legal; layout = subst (λ (t : Timed). IsLayout t c.args.layout.now) same c.requires.layout } }
 
 pub returns-clause-whole : goal.returns-clause-whole
 returns-clause-whole c = subst (λ (t : Timed). IfOk c.mapped.result (IsWhole t)) c.in_ok-nodes.ensures c.mapped.ensures.whole

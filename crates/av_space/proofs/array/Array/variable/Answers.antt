@@ -15,9 +15,9 @@ variable-requires c =
     let is = c.requires.array.layout in
     let l = cell_node (system_of a) (placings_of a) (cells_of a) is.are_cells c.args.cell c.index-as_slice-cell.result c.requires.cell in
     let same = ap (λ (x : List Cell). (get_or x c.args.cell c.index-as_slice-cell.result).node) c.as_slice.ensures in
-    let node = ap (λ (x : Cell). x.node) c.index-as_slice-cell.is in
-    let low : c.index-as_slice-cell.result.node < length (nodes (system_of a)) = omega (arith, l, same, node) in
-    subst (λ (t : Timed). c.index-as_slice-cell.result.node < length (nodes (view_system t.flat))) (sym c.requires.array.nodes) low
+    let n = (get_or c.as_slice.result.now c.args.cell c.index-as_slice-cell.result).node in
+    let low : n < length (nodes (system_of a)) = omega (arith, l, same) in
+    subst (λ (t : Timed). n < length (nodes (view_system t.flat))) (sym c.requires.array.nodes) low
 
 pub returns : goal.returns
 returns c =

@@ -9,13 +9,13 @@ use Rattle.av_space.specs.Lengths.{AreLengths}
 use Rattle.av_space.proofs.ArrayParts.{same_placings, same_cells, own_links, own_ports}
 use Rattle.av_space.proofs.array.Array.with_layout.Goals as goal
 
-pub line_lengths-lengths-requires-clause-scheduled : goal.line_lengths-lengths-requires-clause-scheduled
-line_lengths-lengths-requires-clause-scheduled c =
+pub line_lengths-requires-clause-scheduled : goal.line_lengths-requires-clause-scheduled
+line_lengths-requires-clause-scheduled c =
     let same = sym c.in_ok-nodes.ensures in
     record { legal = subst IsLegal same c.requires.legal; layout = subst (λ (t : Timed). IsLayout t c.args.layout) same c.requires.layout }
 
-pub line_lengths-lengths-requires-clause-links : goal.line_lengths-lengths-requires-clause-links
-line_lengths-lengths-requires-clause-links c =
+pub line_lengths-requires-clause-links : goal.line_lengths-requires-clause-links
+line_lengths-requires-clause-links c =
     let l = c.args.layout in
     let own = own_links c.args.timed.now c.args.cells.now l c.requires.whole c.requires.layout in
     subst (AreLinks (view_system c.in_ok-nodes.nodes.flat) c.in_ok-nodes.nodes.helpers l.placements l.cells) (sym c.as_slice.ensures) (subst (λ (t : Timed). AreLinks (view_system t.flat) t.helpers l.placements l.cells c.args.cells.now.links) (sym c.in_ok-nodes.ensures) own)
