@@ -1,4 +1,4 @@
-use Rattle.std.proofs.Common.{List, sym, subst}
+use Rattle.std.proofs.Common.{◌≡◌, List, sym, subst}
 use Rattle.av_space.specs.declared.cells.Link.{Link}
 use Rattle.av_space.specs.inner.Quantified.{AreWithin, LinksOf, delays_of}
 use Rattle.av_space.proofs.Quantified.{no_fault}
