@@ -46,12 +46,12 @@ pub(crate) fn reading_at(
     requires scheduled { IsScheduled scheduled.now }
     requires fine { IsFineTap piece.now.domain.dim
         (length scheduled.now.timed.now.flat.vars) (tap_of site.now) }
-    requires site { (slots : Items SlotSeen)
-        × Contains slots slot.now × IsSite (system_of scheduled.now) (helpers_of scheduled.now)
-        (placings_of scheduled.now) (cells_of scheduled.now) node (tap_of site.now) (view_piece piece.now) slots }
+    requires site { (slots : Items SlotSeen) × Contains slots slot.now
+        × IsSite (system_of scheduled.now) (helpers_of scheduled.now) (placings_of scheduled.now)
+        (cells_of scheduled.now) node (tap_of site.now) (view_piece piece.now) slots }
     ensures cycle { IfSome result (λ r. r.cycle ≡ slot.now.cycle) }
-    ensures reading { (q d : ℕ)
-        → IsReadingAt (system_of scheduled.now) (placings_of scheduled.now) (cells_of scheduled.now) node
+    ensures reading { (q d : ℕ) → IsReadingAt
+        (system_of scheduled.now) (placings_of scheduled.now) (cells_of scheduled.now) node
         (tap_of site.now) (view_piece piece.now) slot.now.point slot.now.cycle q d
         ↔ (result ≡ Some (record { cycle = slot.now.cycle; producer = q; delay = d })) }
 {
@@ -79,10 +79,11 @@ fn readings(
     requires scheduled { IsScheduled scheduled.now }
     requires fine { IsFineTap piece.now.domain.dim
         (length scheduled.now.timed.now.flat.vars) (tap_of site.now) }
-    requires site { HasSite (system_of scheduled.now) (helpers_of scheduled.now) (placings_of scheduled.now)
-        (cells_of scheduled.now) node (tap_of site.now) (view_piece piece.now) slots.now }
-    ensures { IfOk result (AreReadings
-        (IsReadingOf (system_of scheduled.now) (placings_of scheduled.now) (cells_of scheduled.now) node
+    requires site { HasSite (system_of scheduled.now) (helpers_of scheduled.now)
+        (placings_of scheduled.now) (cells_of scheduled.now) node (tap_of site.now)
+        (view_piece piece.now) slots.now }
+    ensures { IfOk result (AreReadings (IsReadingOf
+        (system_of scheduled.now) (placings_of scheduled.now) (cells_of scheduled.now) node
         (tap_of site.now) (view_piece piece.now) slots.now)) }
 {
     let mut readings = List::new(alloc);
@@ -128,8 +129,8 @@ fn tap_links(
         (system_of scheduled.now) consumer.now.node) (view_variable consumer.now.var.now)) number
         ≡ Some (tap_of site.now) }
     requires own { AreOwn (view_variable consumer.now.var.now) consumer.now.slots.now own.now }
-    ensures { OnOk result (HasLinks (IsTapped
-        (system_of scheduled.now) (helpers_of scheduled.now) (placings_of scheduled.now) (cells_of scheduled.now))
+    ensures { OnOk result (HasLinks (IsTapped (system_of scheduled.now)
+        (helpers_of scheduled.now) (placings_of scheduled.now) (cells_of scheduled.now))
         (IsAt consumer.now.number number) links.old links.new) }
 {
     let place = site.piece();
@@ -152,12 +153,13 @@ fn cell_links(
     requires consumer { IsConsumer (system_of scheduled.now)
         (placings_of scheduled.now) (cells_of scheduled.now) consumer.now.number consumer.now.node
         (view_variable consumer.now.var.now) consumer.now.slots.now }
-    requires sites { map tap_of sites.now ≡ taps (system_of scheduled.now) (helpers_of scheduled.now)
+    requires sites { map tap_of sites.now
+        ≡ taps (system_of scheduled.now) (helpers_of scheduled.now)
         (node_place (system_of scheduled.now) consumer.now.node)
         (view_variable consumer.now.var.now) }
     requires own { AreOwn (view_variable consumer.now.var.now) consumer.now.slots.now own.now }
-    ensures { OnOk result (HasLinks (IsTapped
-        (system_of scheduled.now) (helpers_of scheduled.now) (placings_of scheduled.now) (cells_of scheduled.now))
+    ensures { OnOk result (HasLinks (IsTapped (system_of scheduled.now)
+        (helpers_of scheduled.now) (placings_of scheduled.now) (cells_of scheduled.now))
         (IsOn consumer.now.number) links.old links.new) }
 {
     for number in 0..sites.len() {
@@ -188,8 +190,9 @@ fn consumer_at<'a>(scheduled: &ScheduledSystem<'a>, number: usize) -> Consumer<'
     requires scheduled { IsScheduled scheduled.now }
     requires number { number < length (cells_of scheduled.now) }
     ensures number { result.number ≡ number }
-    ensures consumer { IsConsumer (system_of scheduled.now) (placings_of scheduled.now)
-        (cells_of scheduled.now) result.number result.node (view_variable result.var.now) result.slots.now }
+    ensures consumer { IsConsumer (system_of scheduled.now)
+        (placings_of scheduled.now) (cells_of scheduled.now) result.number result.node
+        (view_variable result.var.now) result.slots.now }
 {
     let layout = scheduled.layout;
     let node = layout.cells.as_slice()[number].node as usize;

@@ -111,8 +111,8 @@ fn cell_operators(scheduled: &ScheduledSystem<'_>, sizes: &[List<u32>], cell: us
     requires scheduled { IsScheduled scheduled.now }
     requires sizes { sizes.now ≡ map piece_sizes (nodes (system_of scheduled.now)) }
     requires cell { cell < length (cells_of scheduled.now) }
-    ensures count { IsCountOf (system_of scheduled.now) (placings_of scheduled.now) (cells_of scheduled.now)
-        (IsOnCell cell) result }
+    ensures count { IsCountOf (system_of scheduled.now)
+        (placings_of scheduled.now) (cells_of scheduled.now) (IsOnCell cell) result }
     ensures most { result ≤ 2 ^ 96 }
 {
     let layout = scheduled.layout;
@@ -132,8 +132,8 @@ fn cell_operators(scheduled: &ScheduledSystem<'_>, sizes: &[List<u32>], cell: us
 /// The sizes of the trees of all pieces with a computation on a cell, cell by cell.
 pub(crate) fn operators(alloc: Global, scheduled: &ScheduledSystem<'_>) -> Result<u128, Memory>
     requires scheduled { IsScheduled scheduled.now }
-    ensures { IfOk result
-        (IsOperatorCount (system_of scheduled.now) (placings_of scheduled.now) (cells_of scheduled.now)) }
+    ensures { IfOk result (IsOperatorCount
+        (system_of scheduled.now) (placings_of scheduled.now) (cells_of scheduled.now)) }
 {
     let sizes = all_sizes(alloc, scheduled.timed)?;
     let mut sum: u128 = 0;

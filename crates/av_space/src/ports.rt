@@ -304,8 +304,9 @@ pub(crate) fn input_ports(alloc: Global, scheduled: &ScheduledSystem<'_>) -> Res
     requires scheduled { IsScheduled scheduled.now }
     ensures ports { IfOk result (λ p. ArePorts (system_of scheduled.now)
         (helpers_of scheduled.now) (placings_of scheduled.now) (cells_of scheduled.now) p.inputs) }
-    ensures lines { IfOk result (λ p. AreInLines (system_of scheduled.now)
-        (helpers_of scheduled.now) (placings_of scheduled.now) (cells_of scheduled.now) p.inputs p.ins) }
+    ensures lines { IfOk result (λ p. AreInLines
+        (system_of scheduled.now) (helpers_of scheduled.now) (placings_of scheduled.now)
+        (cells_of scheduled.now) p.inputs p.ins) }
     ensures few { IfOk result (λ p. length p.inputs ≤ 2 ^ 64) }
 {
     let mut ports = Ports {

@@ -147,8 +147,8 @@ pub(crate) fn at_lines(
     requires scheduled { IsScheduled scheduled.now }
     requires outputs { outputs.now
         ≡ output_cells (system_of scheduled.now) (cells_of scheduled.now) }
-    ensures { IfOk result (AreAtLines
-        (system_of scheduled.now) (placings_of scheduled.now) (cells_of scheduled.now) outputs.now) }
+    ensures { IfOk result (AreAtLines (system_of scheduled.now)
+        (placings_of scheduled.now) (cells_of scheduled.now) outputs.now) }
 {
     let cells = scheduled.layout.cells.as_slice();
     let names = wires_of(alloc, outputs, cells.len())?;

@@ -1,4 +1,4 @@
-use Rattle.std.proofs.Common.{rules, ◌≡◌, ◌∙◌, ◌≤◌, length, map, arith}
+use Rattle.std.proofs.Common.{rules, ◌≡◌, ◌≤◌, length, map, arith}
 use Rattle.std.proofs.lemmas.List.{length-map}
 use Rattle.av_flat.specs.Broadcasts.{references}
 use Rattle.av_flat.specs.Trees.{view, view_piece, view_variable, view_system}
