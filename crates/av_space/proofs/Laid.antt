@@ -228,14 +228,10 @@ count_joined s placings n a b h k = record {
   number = (let l = length-append h.cells k.cells in let x = h.number in let y = k.number in omega (arith, l, x, y));
 }
 
--- a placing of a list at its place
-pub placing_at : (t : Timed) (placings : List Placing) (n : ℕ) (p : Placing) → IsLegal t → ArePlacings t.times placings → n < length placings → p ≡ get_or placings n p → slice_get placings n ≡ Some p
-placing_at t placings n p h are l e = slice_get-get_or placings n p l ∙ ap Some (sym e)
-
-pub made_layout : (t : Timed) (l : Layout) → IsLegal t → ArePlacings t.times l.placements → IsCycles t l.cycles → l.cycles ≤ 4096
+pub made_layout : (t : Timed) (l : Layout) → ArePlacings t.times l.placements → IsCycles t l.cycles → l.cycles ≤ 4096
     → (n : ℕ) → length (nodes (view_system t.flat)) ≤ n → AreCellsIn (view_system t.flat) l.placements 0 n l.cells → AreFilled (view_system t.flat) l.placements l.cells l.slots
     → length l.cells ≤ 2048 → IsLayout t l
-made_layout t l h placings cycles limit n whole are filled few =
+made_layout t l placings cycles limit n whole are filled few =
     let own = all_cells (view_system t.flat) l.placements n l.cells whole are in
     record {
       are_placings = placings;

@@ -178,7 +178,6 @@ fn cells_filled(
 
 // The layout of a system with few cycles and cells.
 fn laid(_timed: &TimedNodes<'_>, placements: List<Placement>, filled: Filled, cycles: u32) -> Layout
-    requires legal { IsLegal _timed.now }
     requires placings { ArePlacings _timed.now.times placements }
     requires cycles { IsCycles _timed.now cycles }
     requires limit { cycles ≤ 4096 }

@@ -9,4 +9,4 @@ pub returns : goal.returns
 returns c =
     let t = c.args._timed.now in
     let l : Layout = record { placements = c.args.placements; cells = c.args.filled.cells; slots = c.args.filled.slots; cycles = c.args.cycles } in
-    made_layout t l c.requires.legal c.requires.placings c.requires.cycles c.requires.limit (length (nodes (view_system t.flat))) (omega arith) c.requires.cells c.requires.slots c.requires.few
+    made_layout t l c.requires.placings c.requires.cycles c.requires.limit (length (nodes (view_system t.flat))) (omega arith) c.requires.cells c.requires.slots c.requires.few
