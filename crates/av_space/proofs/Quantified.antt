@@ -7,7 +7,7 @@ use Rattle.av_space.specs.declared.cells.Link.{Link}
 use Rattle.av_space.specs.declared.fault.SpaceFault.{SpaceFault}
 use Rattle.av_space.specs.declared.fault.SpaceFault.TheVariants as fault
 use Rattle.av_space.specs.declared.layout.Layout.{Layout}
-use Rattle.av_space.specs.declared.scheduled.ScheduledSystem.{ScheduledSystem}
+use Rattle.av_space.specs.inner.Scheduled.{Scheduled}
 use Rattle.av_space.specs.Coordinates.{Placing}
 use Rattle.av_space.specs.Occupancy.{AreCells}
 use Rattle.av_space.specs.Links.{AreLinks, delay_count}
@@ -20,12 +20,12 @@ use Rattle.av_space.proofs.OneArray.{one_cells, one_cycle_count}
 use Rattle.av_space.proofs.OneLinks.{one_links}
 use Rattle.av_space.proofs.OneCount.{one_operator_count}
 
-module _ (of : ScheduledSystem) (is : IsLayout of.timed.now of.layout.now) where
+module _ (of : Scheduled) (is : IsLayout of.timed of.layout) where
   abbrev t : Timed
-  t = of.timed.now
+  t = of.timed
 
   abbrev l : Layout
-  l = of.layout.now
+  l = of.layout
 
   abbrev own : FlatSystem
   own = view_system t.flat

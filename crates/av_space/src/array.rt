@@ -77,10 +77,7 @@ impl<'a> Array<'a> {
         ensures array { IfOk result IsArray }
     {
         let nodes = TimedNodes::new(alloc, timed)?;
-        let scheduled = ScheduledSystem {
-            timed: &nodes,
-            layout: &layout,
-        };
+        let scheduled = ScheduledSystem::new(&nodes, &layout);
         let lengths = line_lengths(alloc, &scheduled, cells.links.as_slice())?;
         Ok(Array {
             timed,

@@ -6,7 +6,7 @@ ghost use Rattle.av_space.specs.Lengths.{AreLengths};
 ghost use Rattle.av_space.specs.inner.Sites.{AreNodeTaps};
 ghost use Rattle.av_space.specs.inner.Lengths.{line_of};
 ghost use Rattle.av_space.specs.inner.Quantified.{LinksOf, delays_of};
-ghost use Rattle.av_space.specs.inner.Scheduled.{IsScheduled, system_of, helpers_of, placings_of, cells_of};
+ghost use Rattle.av_space.specs.inner.Scheduled.{system_of, helpers_of, placings_of, cells_of};
 
 use crate::cells::Link;
 use crate::lengths::{DelayLine, lengthened};
@@ -25,7 +25,7 @@ fn line_of(scheduled: &ScheduledSystem<'_>, sites: &[List<TapSite<'_>>], link: &
     ensures { result ≡ line_of
         (system_of scheduled.now) (helpers_of scheduled.now) (cells_of scheduled.now) link.now }
 {
-    let cell = &scheduled.layout.cells.as_slice()[link.consumer as usize];
+    let cell = &scheduled.cells()[link.consumer as usize];
     let own = taps_of_node(sites, cell.node as usize);
     DelayLine {
         cell: link.producer,
@@ -39,12 +39,11 @@ pub(crate) fn line_lengths(
     scheduled: &ScheduledSystem<'_>,
     links: &[Link],
 ) -> Result<BTreeMap<DelayLine, u32>, Memory>
-    requires scheduled { IsScheduled scheduled.now }
-    requires links { LinksOf scheduled.now links.now }
+    requires { LinksOf scheduled.now links.now }
     ensures { IfOk result (AreLengths
         (system_of scheduled.now) (helpers_of scheduled.now) (cells_of scheduled.now) links.now) }
 {
-    let sites = node_taps(alloc, scheduled.timed)?;
+    let sites = node_taps(alloc, scheduled.timed())?;
     let mut lengths = BTreeMap::new(alloc);
     for link in links {
         let line = line_of(scheduled, sites.as_slice(), link);
@@ -59,11 +58,10 @@ pub(crate) fn delay_count(
     scheduled: &ScheduledSystem<'_>,
     links: &[Link],
 ) -> Result<u128, Memory>
-    requires scheduled { IsScheduled scheduled.now }
-    requires links { LinksOf scheduled.now links.now }
+    requires { LinksOf scheduled.now links.now }
     ensures { IfOk result (λ count. count ≡ delays_of scheduled.now links.now) }
 {
-    let sites = node_taps(alloc, scheduled.timed)?;
+    let sites = node_taps(alloc, scheduled.timed())?;
     let mut lengths = BTreeMap::new(alloc);
     let mut count: u128 = 0;
     for link in links {

@@ -43,9 +43,8 @@ pub(crate) fn reading_at(
     piece: &Piece,
     slot: &Slot,
 ) -> Option<TapReading>
-    requires scheduled { IsScheduled scheduled.now }
     requires fine { IsFineTap piece.now.domain.dim
-        (length scheduled.now.timed.now.flat.vars) (tap_of site.now) }
+        (length scheduled.now.timed.flat.vars) (tap_of site.now) }
     requires site { (slots : Items SlotSeen) × Contains slots slot.now
         × IsSite (system_of scheduled.now) (helpers_of scheduled.now) (placings_of scheduled.now)
         (cells_of scheduled.now) node (tap_of site.now) (view_piece piece.now) slots }
@@ -55,10 +54,11 @@ pub(crate) fn reading_at(
         (tap_of site.now) (view_piece piece.now) slot.now.point slot.now.cycle q d
         ↔ (result ≡ Some (record { cycle = slot.now.cycle; producer = q; delay = d })) }
 {
+    let timed = scheduled.timed();
     if !is_in(&piece.domain, &slot.point) {
         return None;
     }
-    let read = read_at(scheduled.timed, node, site, piece, &slot.point)?;
+    let read = read_at(timed, node, site, piece, &slot.point)?;
     let located = locate(scheduled, read.node, &read.point);
     Some(TapReading {
         cycle: slot.cycle,
@@ -76,9 +76,8 @@ fn readings(
     piece: &Piece,
     slots: &[Slot],
 ) -> Result<List<TapReading>, Memory>
-    requires scheduled { IsScheduled scheduled.now }
     requires fine { IsFineTap piece.now.domain.dim
-        (length scheduled.now.timed.now.flat.vars) (tap_of site.now) }
+        (length scheduled.now.timed.flat.vars) (tap_of site.now) }
     requires site { HasSite (system_of scheduled.now) (helpers_of scheduled.now)
         (placings_of scheduled.now) (cells_of scheduled.now) node (tap_of site.now)
         (view_piece piece.now) slots.now }
@@ -187,20 +186,18 @@ pub(crate) fn node_taps<'a>(
 
 // The cell with this number, as one that reads.
 fn consumer_at<'a>(scheduled: &ScheduledSystem<'a>, number: usize) -> Consumer<'a>
-    requires scheduled { IsScheduled scheduled.now }
-    requires number { number < length (cells_of scheduled.now) }
+    requires { number < length (cells_of scheduled.now) }
     ensures number { result.number ≡ number }
     ensures consumer { IsConsumer (system_of scheduled.now)
         (placings_of scheduled.now) (cells_of scheduled.now) result.number result.node
         (view_variable result.var.now) result.slots.now }
 {
-    let layout = scheduled.layout;
-    let node = layout.cells.as_slice()[number].node as usize;
+    let node = scheduled.cells()[number].node as usize;
     Consumer {
         number: number as u32,
         node,
-        var: scheduled.timed.variable(node),
-        slots: layout.slots.as_slice()[number].as_slice(),
+        var: scheduled.variable(node),
+        slots: scheduled.slots()[number].as_slice(),
     }
 }
 
@@ -240,12 +237,11 @@ pub(crate) fn site_at<'s, 'a>(sites: &'s [TapSite<'a>], number: usize) -> &'s Ta
 
 /// The links of the array: those of all tap sites of all cells.
 pub(crate) fn links(alloc: Global, scheduled: &ScheduledSystem<'_>) -> Result<List<Link>, Memory>
-    requires scheduled { IsScheduled scheduled.now }
     ensures { IfOk result (LinksOf scheduled.now) }
 {
-    let sites = node_taps(alloc, scheduled.timed)?;
+    let sites = node_taps(alloc, scheduled.timed())?;
     let mut links = List::new(alloc);
-    for number in 0..scheduled.layout.cells.as_slice().len() {
+    for number in 0..scheduled.cells().len() {
         let consumer = consumer_at(scheduled, number);
         let own = taps_of_node(sites.as_slice(), consumer.node);
         let slots = slots_of_pieces(alloc, &consumer)?;

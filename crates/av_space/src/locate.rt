@@ -4,7 +4,7 @@ ghost use Rattle.std.specs.Prelude.{◌≡◌, ◌<◌, ◌↔◌, IsTrue, Some,
 ghost use Rattle.av_flat.specs.Nodes.{IsComputation};
 ghost use Rattle.av_flat.specs.Order.{IsBefore};
 ghost use Rattle.av_space.specs.Occupancy.{IsCellBefore, Computes};
-ghost use Rattle.av_space.specs.inner.Scheduled.{IsScheduled, system_of, placings_of, cells_of};
+ghost use Rattle.av_space.specs.inner.Scheduled.{system_of, placings_of, cells_of};
 
 use crate::cells::Cell;
 use crate::layout::Located;
@@ -58,16 +58,14 @@ fn cell_at(cells: &[Cell], node: usize, at: &Point) -> usize
 
 /// The cell that computes a point of a node, and the cycle in which it does.
 pub(crate) fn locate(scheduled: &ScheduledSystem<'_>, node: usize, z: &Point) -> Located
-    requires scheduled { IsScheduled scheduled.now }
-    requires computation { IsComputation (system_of scheduled.now) node z.now }
+    requires { IsComputation (system_of scheduled.now) node z.now }
     ensures { Computes (system_of scheduled.now)
         (placings_of scheduled.now) (cells_of scheduled.now) result.cell result.cycle node z.now }
 {
-    let layout = scheduled.layout;
-    let placements = layout.placements.as_slice();
+    let placements = scheduled.placements();
     let placement = &placements[node];
     let at = placement.coordinates(z);
-    let cell = cell_at(layout.cells.as_slice(), node, &at);
+    let cell = cell_at(scheduled.cells(), node, &at);
     Located {
         cell: cell as u32,
         cycle: placement.cycle(z) as u32,

@@ -39,7 +39,7 @@ fn within_limits(
     requires links { LinksOf scheduled.now links.now }
     ensures delays { IfOk result (λ n. n ≡ delays_of scheduled.now links.now) }
     ensures within { IfOk result (λ n. AreWithin scheduled.now links.now) }
-    ensures refused { IfErr result (IsSpaceFault scheduled.now.timed.now) }
+    ensures refused { IfErr result (IsSpaceFault scheduled.now.timed) }
 {
     let delays = delay_count(alloc, scheduled, links)?;
     if delays > MOST_DELAYS {
@@ -64,7 +64,6 @@ struct Shown {
 
 // The outputs of a layout, and its lines of computed points.
 fn show_points(alloc: Global, scheduled: &ScheduledSystem<'_>) -> Result<Shown, Memory>
-    requires scheduled { IsScheduled scheduled.now }
     ensures outputs { IfOk result (λ made.
         made.outputs ≡ output_cells (system_of scheduled.now) (cells_of scheduled.now)) }
     ensures lines { IfOk result (λ made. AreAtLines (system_of scheduled.now)
@@ -94,14 +93,13 @@ fn laid_out(
     links: List<Link>,
     delays: u32,
 ) -> Result<Cells, Memory>
-    requires scheduled { IsScheduled scheduled.now }
     requires links { LinksOf scheduled.now links }
     requires delays { delays ≡ delays_of scheduled.now links }
-    ensures { IfOk result (IsLaidOut scheduled.now.timed.now) }
+    ensures { IfOk result (IsLaidOut scheduled.now.timed) }
 {
     let ports = input_ports(alloc, scheduled)?;
     let shown = show_points(alloc, scheduled)?;
-    let cells = copied_cells(alloc, scheduled.layout.cells.as_slice())?;
+    let cells = copied_cells(alloc, scheduled.cells())?;
     Ok(Cells {
         cells,
         links,
@@ -111,18 +109,18 @@ fn laid_out(
             ins: ports.ins,
             ats: shown.ats,
         },
-        cycles: scheduled.layout.cycles,
+        cycles: scheduled.cycles(),
         delays,
     })
 }
 
 // The array of a system with its layout, where its quantities are within their limits.
 fn mapped(alloc: Global, scheduled: &ScheduledSystem<'_>) -> Result<Cells, SpaceFault>
-    requires scheduled { IsScheduled scheduled.now }
-    ensures whole { IfOk result (IsWhole scheduled.now.timed.now) }
+    requires { IsScheduled scheduled.now }
+    ensures whole { IfOk result (IsWhole scheduled.now.timed) }
     ensures complete { IfOk result (λ a. (f : Fault)
-        → IsSpaceFault scheduled.now.timed.now f → f ≡ fault.Memory) }
-    ensures refused { IfErr result (IsSpaceFault scheduled.now.timed.now) }
+        → IsSpaceFault scheduled.now.timed f → f ≡ fault.Memory) }
+    ensures refused { IfErr result (IsSpaceFault scheduled.now.timed) }
 {
     let links = links(alloc, scheduled)?;
     let delays = within_limits(alloc, scheduled, links.as_slice())?;
@@ -140,10 +138,7 @@ pub fn map_layout(alloc: Global, timed: &Timed, layout: &Layout) -> Result<Cells
     ensures refused { IfErr result (IsSpaceFault timed.now) }
 {
     let nodes = TimedNodes::new(alloc, timed)?;
-    let scheduled = ScheduledSystem {
-        timed: &nodes,
-        layout,
-    };
+    let scheduled = ScheduledSystem::new(&nodes, layout);
     mapped(alloc, &scheduled)
 }
 

@@ -9,7 +9,7 @@ ghost use Rattle.av_depend.specs.SetPoints.{IsPointOf};
 ghost use Rattle.av_space.specs.Quantities.{size, IsOperatorCount};
 ghost use Rattle.av_space.specs.inner.Apart.{AreOfNode};
 ghost use Rattle.av_space.specs.inner.Counting.{piece_sizes, IsCountOf, IsOnCell};
-ghost use Rattle.av_space.specs.inner.Scheduled.{IsScheduled, system_of, placings_of, cells_of};
+ghost use Rattle.av_space.specs.inner.Scheduled.{system_of, placings_of, cells_of};
 
 use crate::apart::are_apart;
 use crate::layout::Slot;
@@ -108,17 +108,15 @@ fn is_used(slots: &[Slot], piece: &Piece) -> bool
 
 // Those of the pieces on a cell.
 fn cell_operators(scheduled: &ScheduledSystem<'_>, sizes: &[List<u32>], cell: usize) -> u128
-    requires scheduled { IsScheduled scheduled.now }
     requires sizes { sizes.now ≡ map piece_sizes (nodes (system_of scheduled.now)) }
     requires cell { cell < length (cells_of scheduled.now) }
     ensures count { IsCountOf (system_of scheduled.now)
         (placings_of scheduled.now) (cells_of scheduled.now) (IsOnCell cell) result }
     ensures most { result ≤ 2 ^ 96 }
 {
-    let layout = scheduled.layout;
-    let node = layout.cells.as_slice()[cell].node as usize;
-    let var = scheduled.timed.variable(node);
-    let slots = layout.slots.as_slice()[cell].as_slice();
+    let node = scheduled.cells()[cell].node as usize;
+    let var = scheduled.variable(node);
+    let slots = scheduled.slots()[cell].as_slice();
     let own = sizes[node].as_slice();
     let mut sum: u128 = 0;
     for (number, piece) in var.pieces.as_slice().iter().enumerate() {
@@ -131,13 +129,12 @@ fn cell_operators(scheduled: &ScheduledSystem<'_>, sizes: &[List<u32>], cell: us
 
 /// The sizes of the trees of all pieces with a computation on a cell, cell by cell.
 pub(crate) fn operators(alloc: Global, scheduled: &ScheduledSystem<'_>) -> Result<u128, Memory>
-    requires scheduled { IsScheduled scheduled.now }
     ensures { IfOk result (IsOperatorCount
         (system_of scheduled.now) (placings_of scheduled.now) (cells_of scheduled.now)) }
 {
-    let sizes = all_sizes(alloc, scheduled.timed)?;
+    let sizes = all_sizes(alloc, scheduled.timed())?;
     let mut sum: u128 = 0;
-    for cell in 0..scheduled.layout.cells.as_slice().len() {
+    for cell in 0..scheduled.cells().len() {
         sum += cell_operators(scheduled, sizes.as_slice(), cell);
     }
     Ok(sum)

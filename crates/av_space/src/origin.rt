@@ -100,10 +100,7 @@ impl Array<'_> {
         ensures { MatchOption result (IsReadThere self.now spot.now (tap_of tap.now) slot.now → ⊥)
             (λ r. IsReadOver self.now spot.now (tap_of tap.now) slot.now r.producer r.delay) }
     {
-        let scheduled = ScheduledSystem {
-            timed: &self.nodes,
-            layout: &self.layout,
-        };
+        let scheduled = ScheduledSystem::new(&self.nodes, &self.layout);
         reading_at(&scheduled, spot.node, tap, spot.piece, slot)
     }
 

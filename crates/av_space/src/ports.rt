@@ -13,12 +13,12 @@ ghost use Rattle.av_space.specs.Ports.{ArePorts};
 ghost use Rattle.av_space.specs.Occupancy.{IsCellBefore};
 ghost use Rattle.av_space.specs.inner.Feeding.{is_entered, lines_at, with_port, IsReadable, IsFirstOf};
 ghost use Rattle.av_space.specs.inner.NodePieces.{AreOfPiece, AreOwnSlots, IsNodePiece, IsPart, IsInputSite, ArePortsAt, ArePortsOf};
-ghost use Rattle.av_space.specs.inner.Scheduled.{IsScheduled, system_of, helpers_of, placings_of, cells_of};
+ghost use Rattle.av_space.specs.inner.Scheduled.{system_of, helpers_of, placings_of, cells_of};
 
 use crate::apart::slots_in;
 use crate::cells::{Cell, InPort};
 use crate::input_site::{InputSite, direction_of};
-use crate::layout::{Layout, Slot};
+use crate::layout::Slot;
 use crate::linking::piece_at;
 use crate::scheduled::ScheduledSystem;
 use av_affine::Map;
@@ -113,7 +113,7 @@ fn own_slots<'s>(at: &'s NodePiece, cell: usize) -> &'s [Slot]
     requires low { at.now.first ≤ cell }
     requires high { cell < at.now.last }
     ensures { (slots : Items SlotSeen)
-        → slice_get at.now.scheduled.now.layout.now.slots cell ≡ Some slots → result.now
+        → slice_get at.now.scheduled.now.layout.slots cell ≡ Some slots → result.now
         ≡ filter (λ t. has at.now.piece.now.domain t.point) slots }
 {
     let own = at.own.as_slice();
@@ -160,7 +160,7 @@ fn add_reference(
     requires old { ArePortsAt at.now number at.now.first ports.old }
     ensures { OnOk result (ArePortsAt at.now (number + 1) at.now.first ports.new) }
 {
-    let nodes = at.scheduled.timed;
+    let nodes = at.scheduled.timed();
     let timed = nodes.system();
     let input = &timed.flat.vars.as_slice()[var as usize];
     if input.kind.is_computed() {
@@ -203,19 +203,19 @@ fn add_piece(alloc: Global, at: &NodePiece, ports: &mut Ports) -> Result<(), Mem
 // Of each of these cells of a node the computations that are points of a piece of the node.
 fn slots_of_piece(
     alloc: Global,
-    layout: &Layout,
+    rows: &[List<Slot>],
     piece: &Piece,
     first: usize,
     last: usize,
 ) -> Result<List<List<Slot>>, Memory>
-    requires slots { AreOfPiece layout.now.slots piece.now.domain first last }
+    requires slots { AreOfPiece rows.now piece.now.domain first last }
     requires ordered { first ≤ last }
-    requires within { last ≤ length layout.now.slots }
-    ensures { IfOk result (AreOwnSlots layout.now.slots piece.now.domain first last) }
+    requires within { last ≤ length rows.now }
+    ensures { IfOk result (AreOwnSlots rows.now piece.now.domain first last) }
 {
     let mut own = List::new(alloc);
     for cell in first..last {
-        let slots = layout.slots.as_slice()[cell].as_slice();
+        let slots = rows[cell].as_slice();
         let part = slots_in(alloc, slots, &piece.domain)?;
         own.push(part)?;
     }
@@ -231,7 +231,6 @@ fn add_node(
     last: usize,
     ports: &mut Ports,
 ) -> Result<(), Memory>
-    requires scheduled { IsScheduled scheduled.now }
     requires node { node < length (nodes (system_of scheduled.now)) }
     requires first { IsFirstOf (cells_of scheduled.now) node first }
     requires last { IsFirstOf (cells_of scheduled.now) (node + 1) last }
@@ -240,10 +239,10 @@ fn add_node(
     requires old { ArePortsOf scheduled.now node 0 first ports.old }
     ensures { OnOk result (ArePortsOf scheduled.now (node + 1) 0 last ports.new) }
 {
-    let var = scheduled.timed.variable(node);
+    let var = scheduled.variable(node);
     for number in 0..var.pieces.len() {
         let piece = piece_at(var, number);
-        let own = slots_of_piece(alloc, scheduled.layout, piece, first, last)?;
+        let own = slots_of_piece(alloc, scheduled.slots(), piece, first, last)?;
         let at = NodePiece {
             scheduled,
             node,
@@ -281,17 +280,16 @@ fn add_nodes(
     scheduled: &ScheduledSystem<'_>,
     ports: &mut Ports,
 ) -> Result<(), Memory>
-    requires scheduled { IsScheduled scheduled.now }
-    requires none { ArePortsOf scheduled.now 0 0 0 ports.old }
+    requires { ArePortsOf scheduled.now 0 0 0 ports.old }
     ensures ports { OnOk result (ArePorts (system_of scheduled.now) (helpers_of scheduled.now)
         (placings_of scheduled.now) (cells_of scheduled.now) ports.new.inputs) }
     ensures lines { OnOk result (AreInLines (system_of scheduled.now) (helpers_of scheduled.now)
         (placings_of scheduled.now) (cells_of scheduled.now) ports.new.inputs ports.new.ins) }
     ensures few { OnOk result (length ports.new.inputs ≤ 2 ^ 64) }
 {
-    let cells = scheduled.layout.cells.as_slice();
+    let cells = scheduled.cells();
     let mut first = 0;
-    for node in 0..scheduled.timed.len() {
+    for node in 0..scheduled.node_count() {
         let last = end_of(cells, node, first);
         add_node(alloc, scheduled, node, first, last, ports)?;
         first = last;
@@ -301,7 +299,6 @@ fn add_nodes(
 
 /// The input ports of the array of a legal system, in order, and the lines of the reads at them.
 pub(crate) fn input_ports(alloc: Global, scheduled: &ScheduledSystem<'_>) -> Result<Ports, Memory>
-    requires scheduled { IsScheduled scheduled.now }
     ensures ports { IfOk result (λ p. ArePorts (system_of scheduled.now)
         (helpers_of scheduled.now) (placings_of scheduled.now) (cells_of scheduled.now) p.inputs) }
     ensures lines { IfOk result (λ p. AreInLines

@@ -6,7 +6,7 @@ ghost use Rattle.av_flat.specs.Nodes.{IsComputation};
 ghost use Rattle.av_flat.specs.Signatures.{is_kind, is_shown};
 ghost use Rattle.av_space.specs.Listings.{IsWireOf, IsAtLine, AreAtLines};
 ghost use Rattle.av_space.specs.Ports.{output_cells};
-ghost use Rattle.av_space.specs.inner.Scheduled.{IsScheduled, system_of, placings_of, cells_of};
+ghost use Rattle.av_space.specs.inner.Scheduled.{system_of, placings_of, cells_of};
 ghost use Rattle.av_space.specs.inner.Showing.{AreWires, IsShownNode, AreLinesBelow};
 
 use crate::locate::locate;
@@ -53,13 +53,12 @@ pub(crate) fn output_cells(
     alloc: Global,
     scheduled: &ScheduledSystem<'_>,
 ) -> Result<List<u32>, Memory>
-    requires scheduled { IsScheduled scheduled.now }
     ensures { IfOk result (λ outputs.
         outputs ≡ output_cells (system_of scheduled.now) (cells_of scheduled.now)) }
 {
     let mut outputs = List::new(alloc);
-    for (number, cell) in scheduled.layout.cells.as_slice().iter().enumerate() {
-        let var = scheduled.timed.variable(cell.node as usize);
+    for (number, cell) in scheduled.cells().iter().enumerate() {
+        let var = scheduled.variable(cell.node as usize);
         if is_output(var.kind) {
             outputs.push(number as u32)?;
         }
@@ -131,7 +130,7 @@ fn add_lines(alloc: Global, shown: &ShownNode, lines: &mut List<Entry>) -> Resul
     ensures { OnOk result (AreLinesBelow
         shown.now.scheduled.now shown.now.outputs.now (shown.now.node + 1) lines.new) }
 {
-    let points = node_points(alloc, shown.scheduled.timed, shown.node)?;
+    let points = node_points(alloc, shown.scheduled.timed(), shown.node)?;
     for z in points.as_slice() {
         lines.push(shown.line(alloc, z)?)?;
     }
@@ -144,18 +143,17 @@ pub(crate) fn at_lines(
     scheduled: &ScheduledSystem<'_>,
     outputs: &[u32],
 ) -> Result<List<Entry>, Memory>
-    requires scheduled { IsScheduled scheduled.now }
-    requires outputs { outputs.now
+    requires { outputs.now
         ≡ output_cells (system_of scheduled.now) (cells_of scheduled.now) }
     ensures { IfOk result (AreAtLines (system_of scheduled.now)
         (placings_of scheduled.now) (cells_of scheduled.now) outputs.now) }
 {
-    let cells = scheduled.layout.cells.as_slice();
+    let cells = scheduled.cells();
     let names = wires_of(alloc, outputs, cells.len())?;
     let wires = names.as_slice();
     let mut lines = List::new(alloc);
-    for node in 0..scheduled.timed.len() {
-        let var = scheduled.timed.variable(node);
+    for node in 0..scheduled.node_count() {
+        let var = scheduled.variable(node);
         if !is_shown(var.kind) {
             continue;
         }

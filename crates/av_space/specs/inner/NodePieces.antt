@@ -10,14 +10,13 @@ use Rattle.av_poly.specs.Points.{Set}
 use Rattle.av_space.specs.declared.input_site.InputSite.{InputSite}
 use Rattle.av_space.specs.declared.layout.Slot.{Slot}
 use Rattle.av_space.specs.declared.ports.NodePiece.{NodePiece}
-use Rattle.av_space.specs.declared.scheduled.ScheduledSystem.{ScheduledSystem}
 use Rattle.av_space.specs.declared.ports.Ports.{Ports}
 use Rattle.av_space.specs.Taps.{helper_at}
 use Rattle.av_space.specs.inner.Apart.{AreOfNode}
-use Rattle.av_space.specs.inner.Scheduled.{IsScheduled, system_of, helpers_of, placings_of, cells_of}
+use Rattle.av_space.specs.inner.Scheduled.{Scheduled, IsScheduled, system_of, helpers_of, placings_of, cells_of}
 use Rattle.av_space.specs.inner.Feeding.{direction_of, IsReadable, IsFirstOf, StandAt, ArePortsTo}
 
-abbrev pub ArePortsOf : ScheduledSystem → ℕ → ℕ → ℕ → Ports → Type 0
+abbrev pub ArePortsOf : Scheduled → ℕ → ℕ → ℕ → Ports → Type 0
 ArePortsOf of n k p ports = ArePortsTo (system_of of) (helpers_of of) (placings_of of) (cells_of of) n k 0 p ports
 
 abbrev pub ArePortsAt : NodePiece → ℕ → ℕ → Ports → Type 0
@@ -41,7 +40,7 @@ pub record IsNodePiece (at : NodePiece) : Type 0 where
   pub last : IsFirstOf (cells_of at.scheduled.now) (at.node + 1) at.last
   pub ordered : at.first ≤ at.last
   pub within : at.last ≤ length (cells_of at.scheduled.now)
-  pub own : AreOwnSlots at.scheduled.now.layout.now.slots at.piece.now.domain at.first at.last at.own
+  pub own : AreOwnSlots at.scheduled.now.layout.slots at.piece.now.domain at.first at.last at.own
 
 -- a part of the piece, whose references have the numbers from j on
 pub record IsPart (at : NodePiece) (j : ℕ) (t : Tree) : Type 0 where

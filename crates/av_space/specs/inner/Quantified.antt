@@ -6,17 +6,16 @@ use Rattle.av_space.specs.Links.{AreLinks, delay_count}
 use Rattle.av_space.specs.declared.cells.Cells.{Cells}
 use Rattle.av_space.specs.Arrays.{IsArrayOf}
 use Rattle.av_space.specs.Quantities.{IsOperatorCount}
-use Rattle.av_space.specs.declared.scheduled.ScheduledSystem.{ScheduledSystem}
-use Rattle.av_space.specs.inner.Scheduled.{system_of, helpers_of, placings_of, cells_of}
+use Rattle.av_space.specs.inner.Scheduled.{Scheduled, system_of, helpers_of, placings_of, cells_of}
 
-abbrev pub LinksOf : ScheduledSystem → List Link → Type 0
+abbrev pub LinksOf : Scheduled → List Link → Type 0
 LinksOf at links = AreLinks (system_of at) (helpers_of at) (placings_of at) (cells_of at) links
 
-abbrev pub delays_of : ScheduledSystem → List Link → ℕ
+abbrev pub delays_of : Scheduled → List Link → ℕ
 delays_of at links = delay_count (system_of at) (helpers_of at) (cells_of at) links
 
 -- registers of delay lines, links and operators are within their limits
-pub record AreWithin (at : ScheduledSystem) (links : List Link) : Type 0 where
+pub record AreWithin (at : Scheduled) (links : List Link) : Type 0 where
   pub delays : delays_of at links ≤ 32768
   pub links_are : length links ≤ 16384
   pub operators : (m : ℕ) × IsOperatorCount (system_of at) (placings_of at) (cells_of at) m × (m ≤ 1048576)

@@ -8,12 +8,11 @@ use Rattle.av_flat.specs.Signatures.{is_shown}
 use Rattle.av_flat.specs.Trees.{FlatSystem, view_variable}
 use Rattle.av_net.specs.declared.design.Entry.{Entry}
 use Rattle.av_space.specs.declared.cells.Cell.{Cell}
-use Rattle.av_space.specs.declared.scheduled.ScheduledSystem.{ScheduledSystem}
 use Rattle.av_space.specs.declared.shown.ShownNode.{ShownNode}
 use Rattle.av_space.specs.Coordinates.{Placing}
 use Rattle.av_space.specs.Listings.{AtLine, IsWireOf, IsAtLine}
 use Rattle.av_space.specs.Ports.{output_cells}
-use Rattle.av_space.specs.inner.Scheduled.{IsScheduled, system_of, placings_of, cells_of}
+use Rattle.av_space.specs.inner.Scheduled.{Scheduled, IsScheduled, system_of, placings_of, cells_of}
 
 -- the wires at which so many cells are shown
 pub record AreWires (outputs : List ℕ) (count : ℕ) (wires : List Text) : Type 0 where
@@ -36,9 +35,9 @@ pub record AreLinesOf (s : FlatSystem) (placings : List Placing) (cells : List C
   pub order : AllPairs (λ a b. (a.node < b.node) ⊎ ((a.node ≡ b.node) × IsBefore a.entry.point b.entry.point)) lines
 
 -- of the nodes below this one
-abbrev pub AreLinesBelow : ScheduledSystem → List ℕ → ℕ → List Entry → Type 0
+abbrev pub AreLinesBelow : Scheduled → List ℕ → ℕ → List Entry → Type 0
 AreLinesBelow of outputs n ats = AreLinesOf (system_of of) (placings_of of) (cells_of of) outputs (λ m z. m < n) ats
 
 -- of the nodes below this one, and of its points among these
-abbrev pub AreLinesTo : ScheduledSystem → List ℕ → ℕ → List Point → List Entry → Type 0
+abbrev pub AreLinesTo : Scheduled → List ℕ → ℕ → List Point → List Entry → Type 0
 AreLinesTo of outputs n points ats = AreLinesOf (system_of of) (placings_of of) (cells_of of) outputs (λ m z. (m < n) ⊎ ((m ≡ n) × Contains points z)) ats

@@ -19,15 +19,15 @@ tap_links-requires-clause-site c =
 
 pub loop-number-preserved : goal.loop-number-preserved
 loop-number-preserved c =
-    among_more (IsTapped (view_system c.args.scheduled.now.timed.now.flat) c.args.scheduled.now.timed.now.helpers c.args.scheduled.now.layout.now.placements c.args.scheduled.now.layout.now.cells) c.args.consumer.now.number c.loop-number.number
+    among_more (IsTapped (view_system c.args.scheduled.now.timed.flat) c.args.scheduled.now.timed.helpers c.args.scheduled.now.layout.placements c.args.scheduled.now.layout.cells) c.args.consumer.now.number c.loop-number.number
     c.args.links.now c.loop-number.links c.tap_links.new.links c.loop-number.invariant c.in_ok-tap_links.ensures
 
 pub returns : goal.returns
 returns c =
-    let s = view_system c.args.scheduled.now.timed.now.flat in
-    let hs = c.args.scheduled.now.timed.now.helpers in
-    let placings = c.args.scheduled.now.layout.now.placements in
-    let cells = c.args.scheduled.now.layout.now.cells in
+    let s = view_system c.args.scheduled.now.timed.flat in
+    let hs = c.args.scheduled.now.timed.helpers in
+    let placings = c.args.scheduled.now.layout.placements in
+    let cells = c.args.scheduled.now.layout.cells in
     let p = c.args.consumer.now.number in
     of_others (IsTapped s hs placings cells) (IsAmong p c.loop-number.number) (IsOn p) c.args.links.now c.loop-number.links (λ k i a. a.0)
     (λ k j i q d e t.

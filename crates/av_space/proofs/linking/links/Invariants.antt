@@ -5,4 +5,4 @@ use Rattle.std.proofs.Common.{[]}
 use Rattle.av_space.proofs.linking.links.Given as goal
 
 abbrev pub invariant-loop-number : goal.invariant-loop-number
-invariant-loop-number l = HasLinks (IsTapped (view_system l.scheduled.timed.now.flat) l.scheduled.timed.now.helpers l.scheduled.layout.now.placements l.scheduled.layout.now.cells) (IsOnBelow l.number) [] l.links
+invariant-loop-number l = HasLinks (IsTapped (view_system l.scheduled.timed.flat) l.scheduled.timed.helpers l.scheduled.layout.placements l.scheduled.layout.cells) (IsOnBelow l.number) [] l.links

@@ -14,8 +14,8 @@ laid_out-requires-clause-delays c = subst (λ (links : List Link). c.in_ok-delay
 pub returns-clause-whole : goal.returns-clause-whole
 returns-clause-whole c =
     let a = c.in_ok-cells.ensures in
-    whole_listing c.args.scheduled.now.timed.now c.in_ok-cells.cells c.requires.scheduled.legal a.array a.few_inputs a.few_outputs a.few_cells
+    whole_listing c.args.scheduled.now.timed c.in_ok-cells.cells c.requires.legal a.array a.few_inputs a.few_outputs a.few_cells
 
 pub returns-clause-complete : goal.returns-clause-complete
 returns-clause-complete c =
-    no_fault c.args.scheduled.now c.requires.scheduled.layout c.in_ok-links.links c.in_ok-links.ensures (subst (AreWithin c.args.scheduled.now) c.as_slice.ensures c.in_ok-delays.ensures.within)
+    no_fault c.args.scheduled.now c.requires.layout c.in_ok-links.links c.in_ok-links.ensures (subst (AreWithin c.args.scheduled.now) c.as_slice.ensures c.in_ok-delays.ensures.within)

@@ -1,9 +1,10 @@
-use Rattle.std.proofs.Common.{rules, ◌≡◌, ◌≤◌, length, map, arith}
+use Rattle.std.proofs.Common.{rules, ◌≡◌, ◌≤◌, List, length, map, sym, ap, subst, arith}
 use Rattle.std.proofs.lemmas.List.{length-map}
 use Rattle.av_flat.specs.Broadcasts.{references}
 use Rattle.av_flat.specs.Trees.{view, view_piece, view_variable, view_system}
+use Rattle.av_space.specs.declared.layout.Slot.{Slot}
 use Rattle.av_space.specs.declared.ports.NodePiece.{NodePiece}
-use Rattle.av_space.specs.inner.NodePieces.{IsNodePiece}
+use Rattle.av_space.specs.inner.NodePieces.{AreOfPiece, AreOwnSlots, IsNodePiece}
 use Rattle.av_space.proofs.OwnSlots.{are_of_piece}
 use Rattle.av_space.proofs.Fed.{next_node}
 use Rattle.av_space.proofs.NodeParts.{piece_below, piece_passed}
@@ -12,17 +13,19 @@ use Rattle.av_space.proofs.ports.add_node.Goals as goal
 pub slots_of_piece-requires-clause-slots : goal.slots_of_piece-requires-clause-slots
 slots_of_piece-requires-clause-slots c =
     let r = c.requires in
-    are_of_piece c.args.scheduled.now.timed.now c.args.scheduled.now.layout.now c.args.node c.loop-number.number c.args.first c.args.last (view_variable c.variable-var.result.now) (view_piece c.piece_at-piece.result.now) r.scheduled.legal r.scheduled.layout c.variable-var.ensures c.piece_at-piece.ensures
-    r.first r.last r.within
+    let set = c.piece_at-piece.result.now.domain in
+    subst (λ (rows : List (List Slot)). AreOfPiece rows set c.args.first c.args.last) (sym c.slots.ensures.is)
+    (are_of_piece c.args.scheduled.now.timed c.args.scheduled.now.layout c.args.node c.loop-number.number c.args.first c.args.last (view_variable c.variable-var.result.now) (view_piece c.piece_at-piece.result.now) c.slots.ensures.scheduled.legal c.slots.ensures.scheduled.layout c.variable-var.ensures c.piece_at-piece.ensures
+    r.first r.last r.within)
 
 pub slots_of_piece-requires-clause-within : goal.slots_of_piece-requires-clause-within
-slots_of_piece-requires-clause-within c = let within = c.requires.within in let one_each = c.requires.scheduled.layout.one_each in omega (arith, within, one_each)
+slots_of_piece-requires-clause-within c = let within = c.requires.within in let one_each = c.slots.ensures.scheduled.layout.one_each in let rows = ap (λ (xs : List (List Slot)). length xs) c.slots.ensures.is in omega (arith, within, one_each, rows)
 
 pub add_piece-requires-clause-at : goal.add_piece-requires-clause-at
 add_piece-requires-clause-at c =
     let r = c.requires in
     record {
-      scheduled = r.scheduled;
+      scheduled = c.slots.ensures.scheduled;
       variable = view_variable c.variable-var.result.now;
       is_variable = c.variable-var.ensures;
       is_piece = c.piece_at-piece.ensures;
@@ -30,7 +33,7 @@ add_piece-requires-clause-at c =
       last = r.last;
       ordered = r.ordered;
       within = r.within;
-      own = c.in_ok-own.ensures;
+      own = subst (λ (rows : List (List Slot)). AreOwnSlots rows c.piece_at-piece.result.now.domain c.args.first c.args.last c.in_ok-own.own) c.slots.ensures.is c.in_ok-own.ensures;
     }
 
 pub loop-number-preserved : goal.loop-number-preserved
@@ -46,7 +49,7 @@ loop-number-preserved c =
       own = c.in_ok-own.own;
     } in
     let is : IsNodePiece at = record {
-      scheduled = r.scheduled;
+      scheduled = c.slots.ensures.scheduled;
       variable = view_variable c.variable-var.result.now;
       is_variable = c.variable-var.ensures;
       is_piece = c.piece_at-piece.ensures;
@@ -54,14 +57,14 @@ loop-number-preserved c =
       last = r.last;
       ordered = r.ordered;
       within = r.within;
-      own = c.in_ok-own.ensures;
+      own = subst (λ (rows : List (List Slot)). AreOwnSlots rows c.piece_at-piece.result.now.domain c.args.first c.args.last c.in_ok-own.own) c.slots.ensures.is c.in_ok-own.ensures;
     } in
     piece_passed at is (length (references (view c.piece_at-piece.result.now.tree))) c.add_piece.new.ports (omega arith) c.in_ok-add_piece.ensures
 
 pub returns : goal.returns
 returns c =
-    let t = c.args.scheduled.now.timed.now in
-    let l = c.args.scheduled.now.layout.now in
+    let t = c.args.scheduled.now.timed in
+    let l = c.args.scheduled.now.layout in
     let s = view_system t.flat in
     let v = c.variable-var.result.now in
     let over : c.len-number-end.result ≤ c.loop-number.number = search rules in

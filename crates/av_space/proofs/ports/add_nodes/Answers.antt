@@ -7,10 +7,10 @@ use Rattle.av_space.proofs.ports.add_nodes.Goals as goal
 
 pub returns-clause-ports : goal.returns-clause-ports
 returns-clause-ports c =
-    let t = c.args.scheduled.now.timed.now in
-    let l = c.args.scheduled.now.layout.now in
+    let t = c.args.scheduled.now.timed in
+    let l = c.args.scheduled.now.layout in
     let s = view_system t.flat in
-    let over : c.len-node-end.result ≤ c.loop-node.node = search rules in
-    let many : length (nodes s) ≤ c.loop-node.node = (let count = c.len-node-end.ensures.count in omega (arith, over, count)) in
+    let over : c.node_count-node-end.result ≤ c.loop-node.node = search rules in
+    let many : length (nodes s) ≤ c.loop-node.node = (let count = c.node_count-node-end.ensures in omega (arith, over, count)) in
     all_ports s t.helpers l.placements l.cells c.loop-node.node c.loop-node.first c.loop-node.ports
     (λ port is. let a = slice_get_within (nodes s) is.4.node is.4.variable is.4.is_variable in omega (arith, a, many)) c.loop-node.invariant.0

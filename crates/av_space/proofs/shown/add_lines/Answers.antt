@@ -1,5 +1,7 @@
 use Rattle.std.proofs.Common.{rules, ◌+◌, ◌<◌, ◌≤◌, length, take, sym, subst}
 use Rattle.std.proofs.lemmas.Option.{slice_get_within}
+use Rattle.av_flat.specs.declared.timed.Timed.{Timed}
+use Rattle.av_flat.specs.Legal.{IsLegal}
 use Rattle.av_flat.specs.Nodes.{nodes}
 use Rattle.av_flat.specs.Trees.{view_system, view_variable}
 use Rattle.av_space.specs.inner.Laying.{AreNodePoints}
@@ -10,30 +12,34 @@ use Rattle.av_space.proofs.shown.add_lines.Goals as goal
 pub node_points-requires-clause-within : goal.node_points-requires-clause-within
 node_points-requires-clause-within c =
     let shown = c.args.shown.now in
-    slice_get_within (nodes (view_system shown.scheduled.now.timed.now.flat)) shown.node (view_variable shown.var.now) c.requires.node.is_variable
+    let s = view_system shown.scheduled.now.timed.flat in
+    subst (λ (t : Timed). shown.node < length (nodes (view_system t.flat))) (sym c.timed.ensures.is) (slice_get_within (nodes s) shown.node (view_variable shown.var.now) c.requires.node.is_variable)
+
+pub node_points-requires-clause-legal : goal.node_points-requires-clause-legal
+node_points-requires-clause-legal c = subst IsLegal (sym c.timed.ensures.is) c.timed.ensures.scheduled.legal
 
 pub loop-z-init : goal.loop-z-init
 loop-z-init c =
     let shown = c.args.shown.now in
-    first_point (view_system shown.scheduled.now.timed.now.flat) shown.scheduled.now.layout.now.placements shown.scheduled.now.layout.now.cells shown.outputs.now shown.node c.as_slice-z-items.result.now c.args.lines.now c.requires.old
+    first_point (view_system shown.scheduled.now.timed.flat) shown.scheduled.now.layout.placements shown.scheduled.now.layout.cells shown.outputs.now shown.node c.as_slice-z-items.result.now c.args.lines.now c.requires.old
 
 pub loop-z-preserved : goal.loop-z-preserved
 loop-z-preserved c =
     let shown = c.args.shown.now in
-    let s = view_system shown.scheduled.now.timed.now.flat in
+    let s = view_system shown.scheduled.now.timed.flat in
     let points = c.as_slice-z-items.result.now in
-    let are : AreNodePoints s shown.node points = subst (AreNodePoints s shown.node) (sym c.as_slice-z-items.ensures) c.in_ok-points.ensures in
+    let are : AreNodePoints s shown.node points = subst (AreNodePoints s shown.node) (sym c.as_slice-z-items.ensures) (subst (λ (t : Timed). AreNodePoints (view_system t.flat) shown.node c.in_ok-points.points) c.timed.ensures.is c.in_ok-points.ensures) in
     let within : c.loop-z.z-index < length points = search rules in
     let line = c.in_ok-line.ensures in
     subst (AreLinesTo shown.scheduled.now shown.outputs.now shown.node (take (c.loop-z.z-index + 1) points)) (sym c.in_ok-push.ensures.ok)
-    (next_point s shown.scheduled.now.layout.now.placements shown.scheduled.now.layout.now.cells shown.outputs.now c.requires.node.scheduled.layout.are_cells (outputs_rise s shown.scheduled.now.layout.now.cells shown.outputs.now c.requires.node.outputs)
+    (next_point s shown.scheduled.now.layout.placements shown.scheduled.now.layout.cells shown.outputs.now c.requires.node.scheduled.layout.are_cells (outputs_rise s shown.scheduled.now.layout.cells shown.outputs.now c.requires.node.outputs)
     shown.node c.loop-z.z-index points c.z-item.result c.loop-z.lines c.in_ok-line.field-0 are.ascending within c.z-item.is line.0 line.1 c.loop-z.invariant)
 
 pub returns : goal.returns
 returns c =
     let shown = c.args.shown.now in
-    let s = view_system shown.scheduled.now.timed.now.flat in
+    let s = view_system shown.scheduled.now.timed.flat in
     let points = c.as_slice-z-items.result.now in
-    let are : AreNodePoints s shown.node points = subst (AreNodePoints s shown.node) (sym c.as_slice-z-items.ensures) c.in_ok-points.ensures in
+    let are : AreNodePoints s shown.node points = subst (AreNodePoints s shown.node) (sym c.as_slice-z-items.ensures) (subst (λ (t : Timed). AreNodePoints (view_system t.flat) shown.node c.in_ok-points.points) c.timed.ensures.is c.in_ok-points.ensures) in
     let over : length points ≤ c.loop-z.z-index = search rules in
-    whole_node s shown.scheduled.now.layout.now.placements shown.scheduled.now.layout.now.cells shown.outputs.now shown.node c.loop-z.z-index points c.loop-z.lines are over c.loop-z.invariant
+    whole_node s shown.scheduled.now.layout.placements shown.scheduled.now.layout.cells shown.outputs.now shown.node c.loop-z.z-index points c.loop-z.lines are over c.loop-z.invariant

@@ -1,24 +1,27 @@
-use Rattle.std.proofs.Common.{List, sym, subst}
+use Rattle.std.proofs.Common.{◌∙◌, List, sym, ap, subst}
 use Rattle.av_flat.specs.declared.timed.Timed.{Timed}
 use Rattle.av_flat.specs.Legal.{IsLegal}
 use Rattle.av_flat.specs.Trees.{view_system}
 use Rattle.av_space.specs.declared.cells.Link.{Link}
 use Rattle.av_space.specs.Layouts.{IsLayout}
-use Rattle.av_space.specs.Links.{AreLinks}
 use Rattle.av_space.specs.Lengths.{AreLengths}
+use Rattle.av_space.specs.inner.Quantified.{LinksOf}
+use Rattle.av_space.specs.inner.Scheduled.{Scheduled, system_of, helpers_of, cells_of}
 use Rattle.av_space.proofs.ArrayParts.{same_placings, same_cells, own_links, own_ports}
 use Rattle.av_space.proofs.array.Array.with_layout.Goals as goal
 
-pub line_lengths-requires-clause-scheduled : goal.line_lengths-requires-clause-scheduled
-line_lengths-requires-clause-scheduled c =
-    let same = sym c.in_ok-nodes.ensures in
-    record { legal = subst IsLegal same c.requires.legal; layout = subst (λ (t : Timed). IsLayout t c.args.layout) same c.requires.layout }
+pub new-scheduled-requires-clause-legal : goal.new-scheduled-requires-clause-legal
+new-scheduled-requires-clause-legal c = subst IsLegal (sym c.in_ok-nodes.ensures) c.requires.legal
 
-pub line_lengths-requires-clause-links : goal.line_lengths-requires-clause-links
-line_lengths-requires-clause-links c =
+pub new-scheduled-requires-clause-layout : goal.new-scheduled-requires-clause-layout
+new-scheduled-requires-clause-layout c = subst (λ (t : Timed). IsLayout t c.args.layout) (sym c.in_ok-nodes.ensures) c.requires.layout
+
+pub line_lengths-requires : goal.line_lengths-requires
+line_lengths-requires c =
     let l = c.args.layout in
+    let same = c.new-scheduled.ensures ∙ ap (λ (t : Timed). record { timed = t; layout = l }) c.in_ok-nodes.ensures in
     let own = own_links c.args.timed.now c.args.cells.now l c.requires.whole c.requires.layout in
-    subst (AreLinks (view_system c.in_ok-nodes.nodes.flat) c.in_ok-nodes.nodes.helpers l.placements l.cells) (sym c.as_slice.ensures) (subst (λ (t : Timed). AreLinks (view_system t.flat) t.helpers l.placements l.cells c.args.cells.now.links) (sym c.in_ok-nodes.ensures) own)
+    subst (LinksOf c.new-scheduled.result) (sym c.as_slice.ensures) (subst (λ (of : Scheduled). LinksOf of c.args.cells.now.links) (sym same) own)
 
 pub returns-clause-array : goal.returns-clause-array
 returns-clause-array c =
@@ -26,7 +29,8 @@ returns-clause-array c =
     let a = c.args.cells.now in
     let l = c.args.layout in
     let lengths = c.in_ok-lengths.lengths in
-    let own = subst (λ (u : Timed). AreLengths (view_system u.flat) u.helpers l.cells c.as_slice.result.now lengths) c.in_ok-nodes.ensures c.in_ok-lengths.ensures in
+    let same = c.new-scheduled.ensures ∙ ap (λ (u : Timed). record { timed = u; layout = l }) c.in_ok-nodes.ensures in
+    let own = subst (λ (of : Scheduled). AreLengths (system_of of) (helpers_of of) (cells_of of) c.as_slice.result.now lengths) same c.in_ok-lengths.ensures in
     record {
       legal = c.requires.legal;
       whole = c.requires.whole;
