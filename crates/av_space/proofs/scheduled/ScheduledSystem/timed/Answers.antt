@@ -1,4 +1,4 @@
-use Rattle.std.proofs.Common.{◌∙◌, ap, subst}
+use Rattle.std.proofs.Common.{ap, subst}
 use Rattle.av_space.specs.inner.Scheduled.{Scheduled, IsScheduled}
 use Rattle.av_space.proofs.scheduled.ScheduledSystem.timed.Goals as goal
 
