@@ -1,10 +1,9 @@
 -- The point before another, entry by entry.
-use Rattle.std.proofs.Common.{◌≡◌, ℕ, zero, suc, ◌+◌, ◌^◌, ◌<◌, ◌≤◌, ℤ, pos, ◌-ℤ◌, [], ◌∷◌, ◌++◌, length, drop, get_or, append_assoc, append-nil, length-append, add-one, refl, sym, subst, ◌∙◌, ap, ap₂, arith}
+use Rattle.std.proofs.Common.{◌≡◌, ℕ, zero, suc, ◌+◌, ◌^◌, ◌<◌, ◌≤◌, ℤ, pos, ◌-ℤ◌, [], ◌∷◌, ◌++◌, length, drop, get_or, append_assoc, length-append, add-one, refl, sym, subst, ◌∙◌, ap, ap₂, arith}
 use Rattle.std.specs.Prelude.{unsigned_abs}
 use Rattle.std.proofs.lemmas.Int.{ints}
 use Rattle.std.proofs.lemmas.List.Elements.{All-push}
 use Rattle.av_affine.specs.Numbers.{AtMost}
-use Rattle.std.proofs.Math.ListN.{drop_of_length-le}
 use Rattle.av_tree.specs.Points.{Point}
 use Rattle.av_flat.specs.Helped.{before}
 
