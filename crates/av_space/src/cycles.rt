@@ -2,7 +2,6 @@
 
 ghost use Rattle.std.specs.Prelude.{ℕ, ◌≤◌, ◌<ℤ◌, ◌≤ℤ◌, ◌^◌, pos, All, IfOk};
 ghost use Rattle.av_affine.specs.Numbers.{AtMost};
-ghost use Rattle.av_flat.specs.Legal.{IsLegal};
 ghost use Rattle.av_flat.specs.Schedules.{cycle};
 ghost use Rattle.av_space.specs.SpaceFaults.{IsCycles};
 
@@ -34,7 +33,6 @@ fn raised(time: &Time, points: &[Point], count: u128) -> u128
 
 /// The greatest cycle of a computation, plus 1, and 0 where there is no computation.
 pub(crate) fn cycle_count(alloc: Global, timed: &TimedNodes<'_>) -> Result<u128, Memory>
-    requires { IsLegal timed.now }
     ensures { IfOk result (IsCycles timed.now) }
 {
     let times = timed.times();

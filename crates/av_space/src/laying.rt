@@ -56,7 +56,6 @@ fn cell_count(
     timed: &TimedNodes<'_>,
     placements: &List<Placement>,
 ) -> Result<u128, Memory>
-    requires legal { IsLegal timed.now }
     requires placings { ArePlacings timed.now.times placements.now }
     requires ends { HasFewCycles timed.now }
     ensures number { IfOk result
@@ -130,7 +129,6 @@ fn add_nodes(
     cells: &mut List<Cell>,
     slots: &mut List<List<Slot>>,
 ) -> Result<(), Memory>
-    requires legal { IsLegal timed.now }
     requires placings { ArePlacings timed.now.times placements.now }
     requires ends { HasFewCycles timed.now }
     requires cells { cells.old ≡ [] }
@@ -161,7 +159,6 @@ fn cells_filled(
     timed: &TimedNodes<'_>,
     placements: &List<Placement>,
 ) -> Result<Filled, Memory>
-    requires legal { IsLegal timed.now }
     requires placings { ArePlacings timed.now.times placements.now }
     requires ends { HasFewCycles timed.now }
     ensures cells { IfOk result (λ f.
@@ -197,7 +194,6 @@ fn laid(_timed: &TimedNodes<'_>, placements: List<Placement>, filled: Filled, cy
 
 // The number of cycles, if it is within its limit.
 fn limited_cycles(alloc: Global, timed: &TimedNodes<'_>) -> Result<u32, SpaceFault>
-    requires { IsLegal timed.now }
     ensures cycles { IfOk result (IsCycles timed.now) }
     ensures limit { IfOk result (λ cycles. cycles ≤ 4096) }
     ensures refused { IfErr result (IsSpaceFault timed.now) }
@@ -216,7 +212,6 @@ fn limit_nodes(
     placements: &List<Placement>,
     cycles: u32,
 ) -> Result<(), SpaceFault>
-    requires legal { IsLegal timed.now }
     requires placings { ArePlacings timed.now.times placements.now }
     requires cycles { IsCycles timed.now cycles }
     requires limit { cycles ≤ 4096 }
@@ -255,7 +250,6 @@ fn limit_cells(
 
 // The layout of a system, or the first of the cycles and the cells that are above their limit.
 fn layout_of(alloc: Global, timed: &TimedNodes<'_>) -> Result<Layout, SpaceFault>
-    requires { IsLegal timed.now }
     ensures whole { IfOk result (IsLayout timed.now) }
     ensures refused { IfErr result (IsSpaceFault timed.now) }
 {

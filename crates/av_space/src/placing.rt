@@ -2,7 +2,6 @@
 
 ghost use Rattle.std.specs.Prelude.{◌≡◌, ◌≢◌, ◌<◌, pos, length, Any, IfOk};
 ghost use Rattle.av_affine.specs.Numbers.{AtMost};
-ghost use Rattle.av_flat.specs.Legal.{IsLegal};
 ghost use Rattle.av_space.specs.Coordinates.{AreSpaceRows, IsPlacing, ArePlacings};
 
 use crate::placement::Placement;
@@ -54,7 +53,6 @@ fn placement_of(alloc: Global, time: &Time) -> Result<Placement, Memory>
 
 /// The placements of all nodes, in order.
 pub(crate) fn placements(alloc: Global, timed: &TimedNodes<'_>) -> Result<List<Placement>, Memory>
-    requires { IsLegal timed.now }
     ensures { IfOk result (ArePlacings timed.now.times) }
 {
     let mut list = List::new(alloc);

@@ -3,7 +3,6 @@
 ghost use Rattle.std.specs.Prelude.{◌≤◌, ◌<◌, length, All, IfOk};
 ghost use Rattle.av_affine.specs.Forms.{IsWithinLimits};
 ghost use Rattle.av_flat.specs.Sets.{IsBounded};
-ghost use Rattle.av_flat.specs.Legal.{IsLegal};
 ghost use Rattle.av_flat.specs.Trees.{view_system};
 ghost use Rattle.av_depend.specs.AllPoints.{AreAllPoints};
 ghost use Rattle.av_flat.specs.Nodes.{nodes};
@@ -35,8 +34,7 @@ pub(crate) fn node_points(
     timed: &TimedNodes<'_>,
     node: usize,
 ) -> Result<List<Point>, Memory>
-    requires legal { IsLegal timed.now }
-    requires within { node < length (nodes (view_system timed.now.flat)) }
+    requires { node < length (nodes (view_system timed.now.flat)) }
     ensures { IfOk result (AreNodePoints (view_system timed.now.flat) node) }
 {
     points_of(alloc, &timed.variable(node).domain)

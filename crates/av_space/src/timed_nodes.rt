@@ -1,6 +1,7 @@
 //! Timed systems with their nodes.
 
 ghost use Rattle.std.specs.Prelude.{◌≡◌, ◌<◌, ◌≤◌, length, Some, slice_get, IfOk};
+ghost use Rattle.av_flat.specs.Legal.{IsLegal};
 ghost use Rattle.av_flat.specs.Nodes.{nodes, node_place, number_at};
 ghost use Rattle.av_flat.specs.Trees.{view_system, view_variable};
 
@@ -9,7 +10,7 @@ use av_flat::{Nodes, Time, Timed, Var, places};
 use std::alloc::Global;
 use std::marker::Model;
 
-/// A timed system with its nodes, found once. Contracts see the system.
+/// A legal timed system with its nodes, found once. Contracts see the system.
 #[derive(Drop)]
 pub(crate) struct TimedNodes<'a> {
     timed: &'a Timed,
@@ -23,6 +24,7 @@ impl<'a> Model for TimedNodes<'a> {
     ghost use Rattle.std.specs.Coded.{codes};
     ghost use Rattle.av_flat.specs.contracts.timed.Timed as made;
     ghost use Rattle.av_flat.specs.declared.timed.Timed.{Timed as TimedSeen};
+    ghost use Rattle.av_flat.specs.Legal.{IsLegal};
     ghost use Rattle.av_flat.specs.Nodes.{places_of};
     ghost use Rattle.av_flat.specs.Trees.{view_system};
 
@@ -33,12 +35,13 @@ impl<'a> Model for TimedNodes<'a> {
     ghost view = { λ it. it.timed.now };
 
     ghost invariant = { λ it. (it.nodes ≡ it.timed.now.flat)
-        × (it.places ≡ places_of (view_system it.timed.now.flat)) };
+        × (it.places ≡ places_of (view_system it.timed.now.flat)) × IsLegal it.timed.now };
 }
 
 impl<'a> TimedNodes<'a> {
     /// Those of a system.
     pub(crate) fn new(alloc: Global, timed: &'a Timed) -> Result<TimedNodes<'a>, Memory>
+        requires { IsLegal timed.now }
         ensures { IfOk result (λ found. found ≡ timed.now) }
     {
         let nodes = Nodes::new(alloc, &timed.flat)?;
@@ -59,7 +62,8 @@ impl<'a> TimedNodes<'a> {
 
     /// The time of each node.
     pub(crate) fn times(&self) -> &'a [Time]
-        ensures { result.now ≡ self.now.times }
+        ensures is { result.now ≡ self.now.times }
+        ensures legal { IsLegal self.now }
     {
         self.timed.times.as_slice()
     }
@@ -68,6 +72,7 @@ impl<'a> TimedNodes<'a> {
     pub(crate) fn len(&self) -> usize
         ensures count { result ≡ length (nodes (view_system self.now.flat)) }
         ensures most { result ≤ 1073741824 }
+        ensures legal { IsLegal self.now }
     {
         self.nodes.len()
     }
@@ -91,8 +96,9 @@ impl<'a> TimedNodes<'a> {
     /// The variable of a node.
     pub(crate) fn variable(&self, node: usize) -> &'a Var
         requires { node < length (nodes (view_system self.now.flat)) }
-        ensures { slice_get (nodes (view_system self.now.flat)) node
+        ensures is { slice_get (nodes (view_system self.now.flat)) node
             ≡ Some (view_variable result.now) }
+        ensures legal { IsLegal self.now }
     {
         self.nodes.variable(node)
     }

@@ -11,14 +11,14 @@ use Rattle.av_space.proofs.laying.add_nodes.Goals as goal
 pub bounds-placements-node : goal.bounds-placements-node
 bounds-placements-node c =
     let n = c.len-node-end.ensures.count in
-    let m = placings_number c.args.timed.now c.args.placements.now c.requires.legal c.requires.placings in
+    let m = placings_number c.args.timed.now c.args.placements.now c.len-node-end.ensures.legal c.requires.placings in
     let e = ap (λ (ps : List Placing). length ps) c.as_slice-placements.ensures in
     omega (arith, n, m, e, c.loop-node-test.true)
 
 pub offset_bounds-placements-node : goal.offset_bounds-placements-node
 offset_bounds-placements-node c =
     let n = c.len-node-end.ensures.count in
-    let m = placings_number c.args.timed.now c.args.placements.now c.requires.legal c.requires.placings in
+    let m = placings_number c.args.timed.now c.args.placements.now c.len-node-end.ensures.legal c.requires.placings in
     let e = ap (λ (ps : List Placing). length ps) c.as_slice-placements.ensures in
     let t = c.as_slice-placements.type_inv.1 in
     omega (arith, n, m, e, t, c.loop-node-test.true)
@@ -27,7 +27,7 @@ pub add_node-requires-clause-placing : goal.add_node-requires-clause-placing
 add_node-requires-clause-placing c =
     let p = c.index-placements-node.result in
     let n = c.len-node-end.ensures.count in
-    let m = placings_number c.args.timed.now c.args.placements.now c.requires.legal c.requires.placings in
+    let m = placings_number c.args.timed.now c.args.placements.now c.len-node-end.ensures.legal c.requires.placings in
     let e = ap (λ (ps : List Placing). length ps) c.as_slice-placements.ensures in
     let each = subst (All IsPlacing) (sym c.as_slice-placements.ensures) c.requires.placings.each in
     subst IsPlacing (sym c.index-placements-node.is) (each c.loop-node.node p (omega (arith, n, m, e, c.loop-node-test.true)))
@@ -38,7 +38,7 @@ add_node-requires-clause-time c =
     let ps = c.as_slice-placements.result.now in
     let p = c.index-placements-node.result in
     let n = c.len-node-end.ensures.count in
-    let m = placings_number t c.args.placements.now c.requires.legal c.requires.placings in
+    let m = placings_number t c.args.placements.now c.len-node-end.ensures.legal c.requires.placings in
     let e = ap (λ (qs : List Placing). length qs) c.as_slice-placements.ensures in
     let is : slice_get c.args.placements.now c.loop-node.node ≡ Some p = ap (λ (qs : List Placing). slice_get qs c.loop-node.node) (sym c.as_slice-placements.ensures) ∙ slice_get-get_or ps c.loop-node.node p (omega (arith, n, m, e, c.loop-node-test.true)) ∙ ap Some (sym c.index-placements-node.is) in
     placing_time t.times c.args.placements.now c.loop-node.node p c.requires.placings is
@@ -58,7 +58,7 @@ loop-node-preserved c =
     let ps = c.as_slice-placements.result.now in
     let p = c.index-placements-node.result in
     let n = c.len-node-end.ensures.count in
-    let m = placings_number t c.args.placements.now c.requires.legal c.requires.placings in
+    let m = placings_number t c.args.placements.now c.len-node-end.ensures.legal c.requires.placings in
     let e = ap (λ (qs : List Placing). length qs) c.as_slice-placements.ensures in
     let is : slice_get c.args.placements.now c.loop-node.node ≡ Some p = ap (λ (qs : List Placing). slice_get qs c.loop-node.node) (sym c.as_slice-placements.ensures) ∙ slice_get-get_or ps c.loop-node.node p (omega (arith, n, m, e, c.loop-node-test.true)) ∙ ap Some (sym c.index-placements-node.is) in
     let k = c.in_ok-add_node.ensures in

@@ -13,7 +13,7 @@ loop-node-preserved c =
     let k = c.loop-node.node in
     let v = view_variable c.variable-var.result.now in
     c.in_ok-push.ensures.ok ∙ ap (λ (ns : List (List ℕ)). ns ++ c.in_ok-sizes_of.field-0 ∷ []) c.loop-node.invariant ∙ ap (λ (n : List ℕ). map piece_sizes (take k all) ++ n ∷ []) c.in_ok-sizes_of.ensures
-    ∙ sym (map_take_more piece_sizes all k v (slice_get_within all k v c.variable-var.ensures) (sym (get_or_from_slice_get all k v v c.variable-var.ensures)))
+    ∙ sym (map_take_more piece_sizes all k v (slice_get_within all k v c.variable-var.ensures.is) (sym (get_or_from_slice_get all k v v c.variable-var.ensures.is)))
 
 pub returns : goal.returns
 returns c =

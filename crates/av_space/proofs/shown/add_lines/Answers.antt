@@ -1,7 +1,6 @@
 use Rattle.std.proofs.Common.{rules, ◌+◌, ◌<◌, ◌≤◌, length, take, sym, subst}
 use Rattle.std.proofs.lemmas.Option.{slice_get_within}
 use Rattle.av_flat.specs.declared.timed.Timed.{Timed}
-use Rattle.av_flat.specs.Legal.{IsLegal}
 use Rattle.av_flat.specs.Nodes.{nodes}
 use Rattle.av_flat.specs.Trees.{view_system, view_variable}
 use Rattle.av_space.specs.inner.Laying.{AreNodePoints}
@@ -9,14 +8,11 @@ use Rattle.av_space.specs.inner.Showing.{AreLinesTo}
 use Rattle.av_space.proofs.ShownLines.{outputs_rise, first_point, next_point, whole_node}
 use Rattle.av_space.proofs.shown.add_lines.Goals as goal
 
-pub node_points-requires-clause-within : goal.node_points-requires-clause-within
-node_points-requires-clause-within c =
+pub node_points-requires : goal.node_points-requires
+node_points-requires c =
     let shown = c.args.shown.now in
     let s = view_system shown.scheduled.now.timed.flat in
     subst (λ (t : Timed). shown.node < length (nodes (view_system t.flat))) (sym c.timed.ensures.is) (slice_get_within (nodes s) shown.node (view_variable shown.var.now) c.requires.node.is_variable)
-
-pub node_points-requires-clause-legal : goal.node_points-requires-clause-legal
-node_points-requires-clause-legal c = subst IsLegal (sym c.timed.ensures.is) c.timed.ensures.scheduled.legal
 
 pub loop-z-init : goal.loop-z-init
 loop-z-init c =

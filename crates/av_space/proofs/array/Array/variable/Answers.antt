@@ -27,7 +27,7 @@ returns c =
     let cells = c.as_slice.result.now in
     let low : k < length cells = subst (λ (x : List Cell). k < length x) (sym c.as_slice.ensures) c.requires.cell in
     let at : slice_get cells k ≡ Some d = slice_get-get_or cells k d low ∙ ap Some (sym c.index-as_slice-cell.is) in
-    let own = subst (λ (t : Timed). slice_get (nodes (view_system t.flat)) (get_or cells k d).node ≡ Some (view_variable c.variable.result.now)) c.requires.array.nodes c.variable.ensures in
+    let own = subst (λ (t : Timed). slice_get (nodes (view_system t.flat)) (get_or cells k d).node ≡ Some (view_variable c.variable.result.now)) c.requires.array.nodes c.variable.ensures.is in
     record {
       cell = d;
       is_cell = subst (λ (x : List Cell). slice_get x k ≡ Some d) c.as_slice.ensures at;
