@@ -1,10 +1,10 @@
 -- Layouts, node by node.
-use Rattle.std.proofs.Common.{◌≡◌, ℕ, zero, suc, ◌+◌, ◌-◌, ◌<◌, ◌≤◌, append_assoc, ◌⊎◌, inl, inr, Some, List, [], ◌∷◌, ◌++◌, length, length-append, get_or, refl, sym, ap, subst, ◌∙◌, arith}
+use Rattle.std.proofs.Common.{◌≡◌, ℕ, zero, suc, ◌+◌, ◌-◌, ◌<◌, ◌≤◌, append_assoc, ◌⊎◌, inl, inr, Some, List, [], ◌∷◌, ◌++◌, length, length-append, refl, sym, ap, subst, ◌∙◌, arith}
 use Rattle.std.specs.Prelude.{slice_get, nat_lt}
 use Rattle.std.specs.Option.{option_map}
 use Rattle.std.proofs.lemmas.Int.{ints}
 use Rattle.std.proofs.lemmas.Bool.{cases_lt}
-use Rattle.std.proofs.lemmas.Option.{slice_get-map, slice_get-get_or, slice_get_within}
+use Rattle.std.proofs.lemmas.Option.{slice_get-map, slice_get_within}
 use Rattle.std.proofs.lemmas.List.{append-nil, length_push, length-map}
 use Rattle.std.proofs.lemmas.List.Elements.{All-append, All-weaker, All-contains, Contains-append_left, Contains-append_right}
 use Rattle.av_tree.specs.Points.{Point}
@@ -12,7 +12,7 @@ use Rattle.av_flat.specs.declared.timed.Time.{Time}
 use Rattle.av_flat.specs.declared.timed.Timed.{Timed}
 use Rattle.av_flat.specs.Legal.{IsLegal}
 use Rattle.av_flat.specs.Trees.{Variable, FlatSystem, view_system}
-use Rattle.av_flat.specs.Nodes.{nodes, IsComputation, places_of, numbers_of}
+use Rattle.av_flat.specs.Nodes.{nodes, IsComputation}
 use Rattle.av_space.specs.declared.cells.Cell.{Cell}
 use Rattle.av_space.specs.declared.layout.Slot.{Slot}
 use Rattle.av_space.specs.declared.ranked.Ranked.{Ranked}
@@ -228,19 +228,13 @@ count_joined s placings n a b h k = record {
   number = (let l = length-append h.cells k.cells in let x = h.number in let y = k.number in omega (arith, l, x, y));
 }
 
--- a placing of a list at its place
-pub placing_at : (t : Timed) (placings : List Placing) (n : ℕ) (p : Placing) → IsLegal t → ArePlacings t.times placings → n < length placings → p ≡ get_or placings n p → slice_get placings n ≡ Some p
-placing_at t placings n p h are l e = slice_get-get_or placings n p l ∙ ap Some (sym e)
-
-pub made_layout : (t : Timed) (l : Layout) → IsLegal t → ArePlacings t.times l.placements → l.places ≡ places_of (view_system t.flat) → l.numbers ≡ numbers_of (view_system t.flat) → IsCycles t l.cycles → l.cycles ≤ 4096
+pub made_layout : (t : Timed) (l : Layout) → ArePlacings t.times l.placements → IsCycles t l.cycles → l.cycles ≤ 4096
     → (n : ℕ) → length (nodes (view_system t.flat)) ≤ n → AreCellsIn (view_system t.flat) l.placements 0 n l.cells → AreFilled (view_system t.flat) l.placements l.cells l.slots
     → length l.cells ≤ 2048 → IsLayout t l
-made_layout t l h placings places numbers cycles limit n whole are filled few =
+made_layout t l placings cycles limit n whole are filled few =
     let own = all_cells (view_system t.flat) l.placements n l.cells whole are in
     record {
       are_placings = placings;
-      places = places;
-      numbers = numbers;
       are_cells = own;
       few_cells = few;
       cycle_count = cycles;

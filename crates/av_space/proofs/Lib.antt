@@ -1,7 +1,6 @@
 pub mod Counts
 pub mod OperatorCounts
 pub mod TreeSizes
-pub mod CountBounds
 pub mod Elements
 pub mod ByPlace
 pub mod Helpers
@@ -52,7 +51,6 @@ pub mod Quantified
 pub mod SameArray
 pub mod LineLengths
 pub mod LinkLines
-pub mod FewSites
 pub mod ArrayParts
 pub mod SpotPlaces
 pub mod SpotReadings

@@ -1,36 +1,26 @@
 -- Nodes with their pieces, as ports are looked for on them.
-use Rattle.std.proofs.Common.{◌≡◌, ℕ, ◌+◌, ◌^◌, ◌<◌, ◌≤◌, Some, List, length, map, get_or, sym, ap, subst, ◌∙◌, arith}
+use Rattle.std.proofs.Common.{◌≡◌, ℕ, ◌+◌, ◌<◌, Some, List, length, sym, ap, subst, ◌∙◌, arith}
 use Rattle.std.specs.Prelude.{slice_get}
 use Rattle.std.proofs.lemmas.Option.{slice_get_within}
-use Rattle.av_flat.specs.declared.flat.Piece.{Piece as PieceMade}
-use Rattle.av_flat.specs.declared.flat.Var.{Var}
-use Rattle.av_flat.specs.declared.timed.Timed.{Timed}
 use Rattle.av_flat.specs.declared.timed.Helper.{Helper}
-use Rattle.av_flat.specs.Trees.{Piece, Variable, FlatSystem, view_piece, view_variable, view_system}
+use Rattle.av_flat.specs.Trees.{Piece, Variable, FlatSystem, view_piece, view_system}
 use Rattle.av_flat.specs.Broadcasts.{references}
 use Rattle.av_flat.specs.Chained.{IsChainedPiece}
 use Rattle.av_flat.specs.Nodes.{nodes}
-use Rattle.av_flat.specs.Legal.{IsLegal}
 use Rattle.av_flat.specs.Signatures.{signatures}
 use Rattle.av_flat.specs.WellFormed.{Fits}
 use Rattle.av_space.specs.declared.cells.Cell.{Cell}
 use Rattle.av_space.specs.declared.cells.InPort.{InPort}
-use Rattle.av_space.specs.declared.layout.Layout.{Layout}
 use Rattle.av_space.specs.declared.ports.NodePiece.{NodePiece}
 use Rattle.av_space.specs.declared.ports.Ports.{Ports as Found}
 use Rattle.av_space.specs.Coordinates.{Placing}
 use Rattle.av_space.specs.Ports.{IsPort}
-use Rattle.av_space.specs.Quantities.{IsOperatorCount}
 use Rattle.av_space.specs.Taps.{node_of}
-use Rattle.av_space.specs.inner.Feeding.{IsFirstOf}
-use Rattle.av_space.specs.Layouts.{IsLayout}
-use Rattle.av_space.specs.inner.NodePieces.{AreOwnSlots, IsNodePiece, IsPart, IsSmallNode, ArePortsOf, ArePortsAt}
-use Rattle.av_space.proofs.ByPlace.{read_at}
-use Rattle.av_space.proofs.CountBounds.{bounded_node}
+use Rattle.av_space.specs.inner.NodePieces.{IsNodePiece, IsPart, ArePortsOf, ArePortsAt}
 use Rattle.av_space.proofs.Fed.{node_of_port, next_piece}
 use Rattle.av_space.proofs.OnCells.{chained_node}
 use Rattle.av_space.proofs.PieceParts.{whole_part}
-use Rattle.av_base.proofs.Lists.{all_at, get_mapped, some_is, there_is}
+use Rattle.av_base.proofs.Lists.{all_at, some_is}
 
 -- ---- ports of a node
 
@@ -41,12 +31,12 @@ piece_below s hs placings cells n v is port h e =
     let same : f.variable ≡ v = some_is f.variable v (sym f.is_variable ∙ ap (λ (i : ℕ). slice_get (nodes s) i) (node_of_port s hs placings cells port h n e) ∙ is) in
     slice_get_within v.pieces port.piece f.piece (ap (λ (w : Variable). slice_get w.pieces port.piece) (sym same) ∙ f.is_piece)
 
-pub site_below : (at : NodePiece) (is : IsNodePiece at) (port : InPort) → IsPort (view_system at.timed.now.flat) at.timed.now.helpers at.layout.now.placements at.layout.now.cells port
-    → node_of at.layout.now.cells port.cell ≡ Some at.node → port.piece ≡ at.number → port.site < length (references (view_piece at.piece.now).tree)
+pub site_below : (at : NodePiece) (is : IsNodePiece at) (port : InPort) → IsPort (view_system at.scheduled.now.timed.flat) at.scheduled.now.timed.helpers at.scheduled.now.layout.placements at.scheduled.now.layout.cells port
+    → node_of at.scheduled.now.layout.cells port.cell ≡ Some at.node → port.piece ≡ at.number → port.site < length (references (view_piece at.piece.now).tree)
 site_below at is port h e number =
-    let s = view_system at.timed.now.flat in
+    let s = view_system at.scheduled.now.timed.flat in
     let f = h.4 in
-    let n = node_of_port s at.timed.now.helpers at.layout.now.placements at.layout.now.cells port h at.node e in
+    let n = node_of_port s at.scheduled.now.timed.helpers at.scheduled.now.layout.placements at.scheduled.now.layout.cells port h at.node e in
     let same : f.variable ≡ is.variable = some_is f.variable is.variable (sym f.is_variable ∙ ap (λ (i : ℕ). slice_get (nodes s) i) n ∙ is.is_variable) in
     let piece : f.piece ≡ view_piece at.piece.now = some_is f.piece (view_piece at.piece.now)
     (sym f.is_piece ∙ ap (λ (i : ℕ). slice_get f.variable.pieces i) number ∙ ap (λ (w : Variable). slice_get w.pieces at.number) same ∙ is.is_piece) in
@@ -54,62 +44,17 @@ site_below at is port h e number =
 
 -- ---- pieces of a node
 
-pub small_number : (s : FlatSystem) (n k : ℕ) (v : Variable) → IsSmallNode s n → slice_get (nodes s) n ≡ Some v → k < length v.pieces → k < 2 ^ 32
-small_number s n k v small is l =
-    let same : small.variable ≡ v = some_is small.variable v (sym small.is_variable ∙ is) in
-    let m = ap (λ (w : Variable). length w.pieces) same in
-    let f = small.few in
-    omega (arith, l, m, f)
-
-pub short_piece : (s : FlatSystem) (n k : ℕ) (v : Variable) (piece : Piece) → IsSmallNode s n → slice_get (nodes s) n ≡ Some v → slice_get v.pieces k ≡ Some piece → length (references piece.tree) < 2 ^ 32
-short_piece s n k v piece small is e =
-    let same : small.variable ≡ v = some_is small.variable v (sym small.is_variable ∙ is) in
-    small.short k piece (ap (λ (w : Variable). slice_get w.pieces k) same ∙ e)
-
--- a piece as a loop over the pieces of the variable has it
-pub node_piece_is : (at : NodePiece) (v : Var) (items : List PieceMade) → IsLegal at.timed.now → IsLayout at.timed.now at.layout.now → IsSmallNode (view_system at.timed.now.flat) at.node
-    → slice_get (nodes (view_system at.timed.now.flat)) at.node ≡ Some (view_variable v) → items ≡ v.pieces → at.number < length items → at.piece.now ≡ get_or items at.number at.piece.now
-    → IsFirstOf at.layout.now.cells at.node at.first → IsFirstOf at.layout.now.cells (at.node + 1) at.last → at.first ≤ at.last → at.last ≤ length at.layout.now.cells
-    → AreOwnSlots at.layout.now.slots at.piece.now.domain at.first at.last at.own → IsNodePiece at
-node_piece_is at v items legal layout small is same lt read first last ordered within own =
-    let here = get_mapped view_piece v.pieces at.number at.piece.now (read_at v.pieces items at.number at.piece.now same lt read) in
-    record {
-      legal = legal;
-      layout = layout;
-      variable = view_variable v;
-      is_variable = is;
-      is_piece = here;
-      few = small_number (view_system at.timed.now.flat) at.node at.number (view_variable v) small is (slice_get_within (map view_piece v.pieces) at.number (view_piece at.piece.now) here);
-      first = first;
-      last = last;
-      ordered = ordered;
-      within = within;
-      own = own;
-    }
-
-pub piece_part : (at : NodePiece) (is : IsNodePiece at) → IsSmallNode (view_system at.timed.now.flat) at.node → IsPart at 0 (view_piece at.piece.now).tree
-piece_part at is small =
-    let s = view_system at.timed.now.flat in
+pub piece_part : (at : NodePiece) (is : IsNodePiece at) → IsPart at 0 (view_piece at.piece.now).tree
+piece_part at is =
+    let s = view_system at.scheduled.now.timed.flat in
     let piece = view_piece at.piece.now in
-    let chained = chained_node at.timed.now at.node is.variable is.legal is.is_variable in
+    let chained = chained_node at.scheduled.now.timed at.node is.variable is.scheduled.legal is.is_variable in
     let own = all_at (IsChainedPiece (signatures s) is.variable) is.variable.pieces at.number piece chained.pieces is.is_piece in
-    whole_part at (subst (λ (n : ℕ). Fits (signatures s) n piece.tree) (sym own.dimension) own.tree.fits) own.tree.rows (short_piece s at.node at.number is.variable piece small is.is_variable is.is_piece)
+    whole_part at (subst (λ (n : ℕ). Fits (signatures s) n piece.tree) (sym own.dimension) own.tree.fits) own.tree.rows
 
 -- from one piece to the next
 pub piece_passed : (at : NodePiece) (is : IsNodePiece at) (next : ℕ) (ports : Found) → next ≡ 0 + length (references (view_piece at.piece.now).tree) → ArePortsAt at next at.first ports
-    → ArePortsOf at.timed.now at.layout.now at.node (at.number + 1) at.first ports
+    → ArePortsOf at.scheduled.now at.node (at.number + 1) at.first ports
 piece_passed at is next ports e h =
-    next_piece (view_system at.timed.now.flat) at.timed.now.helpers at.layout.now.placements at.layout.now.cells at.node at.number next at.first ports is.first
+    next_piece (view_system at.scheduled.now.timed.flat) at.scheduled.now.timed.helpers at.scheduled.now.layout.placements at.scheduled.now.layout.cells at.node at.number next at.first ports is.first
     (λ port p n k. let l = site_below at is port p n k in omega (arith, l, e)) h
-
--- the numbers of a node's pieces and references are small, where the operators are few
-pub small_node : (t : Timed) (l : Layout) (n : ℕ) → IsLegal t → IsLayout t l → (m : ℕ) × IsOperatorCount (view_system t.flat) l.placements l.cells m × (m ≤ 1048576) → n < length (nodes (view_system t.flat)) → IsSmallNode (view_system t.flat) n
-small_node t l n legal layout h lt =
-    let v = there_is (nodes (view_system t.flat)) n lt in
-    let b = bounded_node t l h.0 n v.0 legal layout h.1 v.1 in
-    record {
-      variable = v.0;
-      is_variable = v.1;
-      few = (let a = b.pieces in let m = h.2 in omega (arith, a, m));
-      short = λ k piece e. (let a = b.references k piece e in let m = h.2 in omega (arith, a, m));
-    }

@@ -50,14 +50,6 @@ pub record AreSpotsBelow (a : Array) (p n : ℕ) (spots : List Spot) : Type 0 wh
       → Contains (map (λ at. at.number) spots) k
   pub order : AllPairs (λ at of. at.number < of.number) spots
 
-pub no_spots : (a : Array) (p : ℕ) → AreSpotsBelow a p 0 []
-no_spots a p = record {
-  each = λ k d l. absurd (omega (arith, l));
-  low = λ k d l. absurd (omega (arith, l));
-  all = λ c m z v k piece computes is at within l. absurd (omega (arith, l));
-  order = λ i j d l m. absurd (omega (arith, m));
-}
-
 -- what computes on a cell is of the piece's variable
 same_piece : (a : Array) (at : Spot) → IsSpot a at → (c m : ℕ) (z : Point) (v : Variable) (k : ℕ) (piece : Piece) → ComputesIn a at.cell c m z → slice_get (nodes (system_of a)) m ≡ Some v → slice_get v.pieces k ≡ Some piece → k ≡ at.number
     → (m ≡ at.node) × (piece ≡ view_piece at.piece.now)

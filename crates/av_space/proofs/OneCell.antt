@@ -1,19 +1,17 @@
 -- Computations on one cell.
-use Rattle.std.proofs.Common.{◌≡◌, ℕ, ◌≤◌, List, [], ◌∷◌, length, map, refl, sym, subst, arith, ◌∙◌, ap, ℤ, pos, ◌+ℤ◌, ◌-ℤ◌, ◌*ℤ◌, ◌≤ℤ◌, ◌<ℤ◌, Option, Some}
-use Rattle.std.specs.Prelude.{IsTrue, slice_get}
+use Rattle.std.proofs.Common.{◌≡◌, ℕ, ◌≤◌, List, [], ◌∷◌, length, map, sym, subst, arith, ◌∙◌, ap, ℤ, pos, ◌+ℤ◌, ◌-ℤ◌, ◌*ℤ◌, ◌≤ℤ◌, ◌<ℤ◌, Option, Some}
+use Rattle.std.specs.Prelude.{slice_get}
 use Rattle.std.proofs.lemmas.Int.{ints}
 use Rattle.av_affine.specs.Numbers.{dot}
 use Rattle.av_affine.proofs.Ring.{ring, cube}
 use Rattle.av_affine.proofs.Order.{nonneg_by}
 use Rattle.av_tree.specs.Points.{Point}
 use Rattle.av_flat.specs.Trees.{FlatSystem}
-use Rattle.av_flat.specs.Points.{has}
-use Rattle.av_poly.specs.Points.{Set}
 use Rattle.av_space.specs.declared.cells.Cell.{Cell}
 use Rattle.av_flat.specs.Schedules.{cycle}
 use Rattle.av_space.specs.Coordinates.{Placing, along}
 use Rattle.av_space.specs.Occupancy.{Computes}
-use Rattle.av_space.proofs.Between.{Keeps, between_images, straight}
+use Rattle.av_space.proofs.Between.{Keeps, straight}
 
 some_is : {X : Type 0} (x y : X) (o : Option X) → o ≡ Some x → o ≡ Some y → x ≡ y
 some_is x y o e f = cc
@@ -48,29 +46,6 @@ in_order g o t u a b positive ea eb le =
     let k : pos 0 ≤ℤ (g *ℤ (u -ℤ t)) = omega (arith, ints, s, ea, eb) in
     let r = nonneg_by g (u -ℤ t) positive k in
     omega (arith, ints, r)
-
--- on a cell a set has each computed point between two of its own
-pub between_cycles : (s : FlatSystem) (placings : List Placing) (cells : List Cell) (p n : ℕ) (placing : Placing) (dim : ℕ) → slice_get placings n ≡ Some placing → Inverts placing dim
-    → (set : Set) (a b c : ℕ) (x y z : Point) → length x ≡ dim → length y ≡ dim → length z ≡ dim → Computes s placings cells p a n x → Computes s placings cells p b n y → Computes s placings cells p c n z
-    → a ≤ b → b ≤ c → IsTrue (has set x) → IsTrue (has set z) → IsTrue (has set y)
-between_cycles s placings cells p n placing dim is i set a b c x y z lx ly lz hx hy hz ab bc in_x in_z =
-    let at = along placing.rows x in
-    let same_x : hx.stands.placing ≡ placing = some_is hx.stands.placing placing (slice_get placings n) hx.stands.is_placing is in
-    let same_y : hy.stands.placing ≡ placing = some_is hy.stands.placing placing (slice_get placings n) hy.stands.is_placing is in
-    let same_z : hz.stands.placing ≡ placing = some_is hz.stands.placing placing (slice_get placings n) hz.stands.is_placing is in
-    let cell_y : hx.cell ≡ hy.cell = some_is hx.cell hy.cell (slice_get cells p) hx.is_cell hy.is_cell in
-    let cell_z : hx.cell ≡ hz.cell = some_is hx.cell hz.cell (slice_get cells p) hx.is_cell hz.is_cell in
-    let at_x : hx.cell.at ≡ at = hx.stands.at ∙ ap (λ (q : Placing). along q.rows x) same_x in
-    let at_y : along placing.rows y ≡ at = ap (λ (q : Placing). along q.rows y) (sym same_y) ∙ sym hy.stands.at ∙ ap (λ (k : Cell). k.at) (sym cell_y) ∙ at_x in
-    let at_z : along placing.rows z ≡ at = ap (λ (q : Placing). along q.rows z) (sym same_z) ∙ sym hz.stands.at ∙ ap (λ (k : Cell). k.at) (sym cell_z) ∙ at_x in
-    let t = dot i.vector x in
-    let u = dot i.vector y in
-    let v = dot i.vector z in
-    let cx = cycle_is placing dim i a x (subst (λ (q : Placing). pos a ≡ cycle q.time x) same_x hx.stands.in_cycle) in
-    let cy = cycle_is placing dim i b y (subst (λ (q : Placing). pos b ≡ cycle q.time y) same_y hy.stands.in_cycle) in
-    let cz = cycle_is placing dim i c z (subst (λ (q : Placing). pos c ≡ cycle q.time z) same_z hz.stands.in_cycle) in
-    between_images (i.vector ∷ placing.rows) i.inverse dim i.keeps set x y z t u v at lx ly lz refl (ap (λ (w : List ℤ). u ∷ w) at_y) (ap (λ (w : List ℤ). v ∷ w) at_z)
-    (in_order i.gcd placing.time.offset t u a b i.positive cx cy ab) (in_order i.gcd placing.time.offset u v b c i.positive cy cz bc) in_x in_z
 
 -- on a cell two points of one cycle are one
 pub same_point : (s : FlatSystem) (placings : List Placing) (cells : List Cell) (p n : ℕ) (placing : Placing) (dim : ℕ) → slice_get placings n ≡ Some placing → Inverts placing dim

@@ -1,10 +1,9 @@
 -- The point before another, entry by entry.
-use Rattle.std.proofs.Common.{◌≡◌, ℕ, zero, suc, ◌+◌, ◌^◌, ◌<◌, ◌≤◌, ℤ, pos, ◌-ℤ◌, [], ◌∷◌, ◌++◌, length, drop, get_or, append_assoc, append-nil, length-append, add-one, refl, sym, subst, ◌∙◌, ap, ap₂, arith}
+use Rattle.std.proofs.Common.{◌≡◌, ℕ, zero, suc, ◌+◌, ◌^◌, ◌<◌, ◌≤◌, ℤ, pos, ◌-ℤ◌, [], ◌∷◌, ◌++◌, length, drop, get_or, append_assoc, length-append, add-one, refl, sym, subst, ◌∙◌, ap, ap₂, arith}
 use Rattle.std.specs.Prelude.{unsigned_abs}
 use Rattle.std.proofs.lemmas.Int.{ints}
 use Rattle.std.proofs.lemmas.List.Elements.{All-push}
 use Rattle.av_affine.specs.Numbers.{AtMost}
-use Rattle.std.proofs.Math.ListN.{drop_of_length-le}
 use Rattle.av_tree.specs.Points.{Point}
 use Rattle.av_flat.specs.Helped.{before}
 
@@ -43,9 +42,3 @@ one_entry_more z w entries more k x l is few e h = record {
   small = subst (AtMost (2 ^ 25)) (sym e) (All-push (λ y. unsigned_abs y ≤ 2 ^ 25) entries x h.small few);
   size = ap (length {A = ℤ}) e ∙ length-append entries (x ∷ []) ∙ ap (λ n. n + 1) h.size;
 }
-
--- all of them
-pub all_entries : (z w entries : Point) (k : ℕ) → length z ≤ k → AreFirst z w k entries → entries ≡ before z w
-all_entries z w entries k l h =
-    let none : drop k z ≡ [] = drop_of_length-le z l in
-    sym (append-nil entries) ∙ sym (ap (λ (y : Point). entries ++ before y (drop k w)) none) ∙ h.rest

@@ -1,5 +1,5 @@
 -- What a tap site reads was computed before: by the schedule.
-use Rattle.std.proofs.Common.{◌≡◌, ℕ, zero, suc, ◌+◌, ◌-◌, ◌<◌, List, [], ◌∷◌, ◌++◌, length, map, refl, sym, subst, arith, ◌∙◌, ap, Bool, true, false, ◌&&◌, not, if◌then◌else◌, ℤ, pos, ◌+ℤ◌, ◌≤ℤ◌, Option, Some, None, inl, inr}
+use Rattle.std.proofs.Common.{◌≡◌, ℕ, zero, suc, ◌+◌, ◌-◌, ◌<◌, List, [], ◌∷◌, ◌++◌, length, map, refl, sym, subst, arith, ◌∙◌, ap, Bool, true, false, ◌&&◌, not, if◌then◌else◌, ℤ, pos, negsuc, ◌+ℤ◌, ◌≤ℤ◌, Option, Some, None, inl, inr}
 use Rattle.std.specs.Prelude.{Contains, IsTrue, slice_get, filter, nat_lt}
 use Rattle.std.specs.List.{AllByRecursion, flat_map}
 use Rattle.std.proofs.lemmas.Int.{ints}
@@ -35,7 +35,6 @@ use Rattle.av_space.specs.Taps.{Pipeline, helper_at, Way, each, entries, handed,
 use Rattle.av_depend.specs.ComputedPlaces.{computed_at}
 use Rattle.av_space.proofs.Elements.{each_at, in_range}
 use Rattle.av_flat.proofs.Cycles.{node_at}
-use Rattle.av_space.proofs.CountBounds.{natural}
 use Rattle.av_base.proofs.Among.{among_at}
 use Rattle.av_base.proofs.Lists.{each_append, each_by_place, each_filtered, each_weaker, get_mapped, some_is, there_is, place_in}
 
@@ -264,6 +263,10 @@ read_node s hs placings cells g v among k piece is_piece z inside place y read c
 
     less : (m n : ℕ) → m < n → nat_lt m n ≡ true
     less m n h = grind arith
+
+pub natural : (x : ℤ) → pos 0 ≤ℤ x → (n : ℕ) × (pos n ≡ x)
+natural (pos n) h = (n, refl)
+natural (negsuc n) h = absurd (omega (arith, ints, h))
 
 -- a computation stands on a cell
 pub stands : (s : FlatSystem) (hs : List Helper) (placings : List Placing) (cells : List CellMade) → Scheduled s hs placings cells → (k : ℕ) (y : Point) → IsComputation s k y → (pl : Placing) → slice_get placings k ≡ Some pl

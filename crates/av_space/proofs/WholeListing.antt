@@ -38,7 +38,7 @@ use Rattle.av_space.proofs.ByPlace.{from_map, pair_at, pairs_by_place, all_by_pl
 use Rattle.av_space.proofs.OneCell.{one_node}
 use Rattle.av_space.proofs.Placed.{one_point}
 use Rattle.av_depend.proofs.Generators.{before_itself}
-use Rattle.av_space.proofs.CountBounds.{natural}
+use Rattle.av_space.proofs.Timely.{natural}
 use Rattle.av_base.proofs.Lists.{all_at, get_mapped, some_is, there_is, place_in}
 
 -- ---- orders

@@ -3,7 +3,6 @@ use Rattle.std.specs.Prelude.{◌≡◌, ℕ, ◌<◌, ◌≤◌, List, All, All
 use Rattle.av_tree.specs.Points.{Point}
 use Rattle.av_flat.specs.declared.timed.Timed.{Timed}
 use Rattle.av_flat.specs.Trees.{FlatSystem, view_system}
-use Rattle.av_flat.specs.Nodes.{places_of, numbers_of}
 use Rattle.av_space.specs.declared.cells.Cell.{Cell}
 use Rattle.av_space.specs.declared.layout.Slot.{Slot}
 use Rattle.av_space.specs.declared.layout.Layout.{Layout}
@@ -24,8 +23,6 @@ pub record AreSlots (s : FlatSystem) (placings : List Placing) (cells : List Cel
 
 pub record IsLayout (t : Timed) (l : Layout) : Type 0 where
   pub are_placings : ArePlacings t.times l.placements
-  pub places : l.places ≡ places_of (view_system t.flat)
-  pub numbers : l.numbers ≡ numbers_of (view_system t.flat)
   pub are_cells : AreCells (view_system t.flat) l.placements l.cells
   pub few_cells : length l.cells ≤ 2048
   pub cycle_count : IsCycleCount (view_system t.flat) t.times l.cycles

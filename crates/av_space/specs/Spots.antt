@@ -50,11 +50,12 @@ cells_of a = a.layout.cells
 abbrev pub ComputesIn : Array → ℕ → ℕ → ℕ → Point → Type 0
 ComputesIn a p c n z = Computes (system_of a) (placings_of a) (cells_of a) p c n z
 
--- its cells, links and ports are those of a legal system
+-- its cells, links and ports are those of a legal system, and so are its nodes
 pub record IsArray (a : Array) : Type 0 where
   pub legal : IsLegal a.timed.now
   pub whole : IsWhole a.timed.now a.cells.now
   pub layout : IsLayout a.timed.now a.layout
+  pub nodes : a.nodes ≡ a.timed.now
   pub same_placings : whole.list.placings ≡ placings_of a
   pub same_cells : a.cells.now.cells ≡ cells_of a
   pub links : AreLinks (system_of a) (helpers_of a) (placings_of a) (cells_of a) a.cells.now.links

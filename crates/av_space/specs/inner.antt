@@ -10,3 +10,4 @@ pub mod Quantified
 pub mod Showing
 pub mod SpotTaps
 pub mod Apart
+pub mod Scheduled

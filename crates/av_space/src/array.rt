@@ -15,6 +15,8 @@ use crate::laying::lay_out;
 use crate::layout::{Layout, Slot};
 use crate::lengths::DelayLine;
 use crate::lines::line_lengths;
+use crate::scheduled::ScheduledSystem;
+use crate::timed_nodes::TimedNodes;
 use av_base::Memory;
 use av_flat::Timed;
 use std::alloc::Global;
@@ -24,6 +26,7 @@ use std::collections::BTreeMap;
 #[derive(Drop)]
 pub struct Array<'a> {
     pub(crate) timed: &'a Timed,
+    pub(crate) nodes: TimedNodes<'a>,
     pub(crate) cells: &'a Cells,
     pub(crate) layout: Layout,
     /// Of the delay lines that are read.
@@ -73,9 +76,12 @@ impl<'a> Array<'a> {
         ensures cells { IfOk result (λ a. a.cells.now ≡ cells.now) }
         ensures array { IfOk result IsArray }
     {
-        let lengths = line_lengths(alloc, timed, &layout, cells.links.as_slice())?;
+        let nodes = TimedNodes::new(alloc, timed)?;
+        let scheduled = ScheduledSystem::new(&nodes, &layout);
+        let lengths = line_lengths(alloc, &scheduled, cells.links.as_slice())?;
         Ok(Array {
             timed,
+            nodes,
             cells,
             layout,
             lengths,

@@ -1,17 +1,15 @@
 //! The number of cycles.
 
-ghost use Rattle.std.specs.Prelude.{◌≡◌, ℕ, ◌≤◌, ◌<ℤ◌, ◌≤ℤ◌, ◌^◌, pos, All, IfOk};
+ghost use Rattle.std.specs.Prelude.{ℕ, ◌≤◌, ◌<ℤ◌, ◌≤ℤ◌, ◌^◌, pos, All, IfOk};
 ghost use Rattle.av_affine.specs.Numbers.{AtMost};
-ghost use Rattle.av_flat.specs.Legal.{IsLegal};
 ghost use Rattle.av_flat.specs.Schedules.{cycle};
-ghost use Rattle.av_flat.specs.Trees.{view_system};
 ghost use Rattle.av_space.specs.SpaceFaults.{IsCycles};
-ghost use Rattle.av_flat.specs.Nodes.{places_of};
 
 use crate::placement::cycle_of;
 use crate::points::node_points;
+use crate::timed_nodes::TimedNodes;
 use av_base::{Memory, Point};
-use av_flat::{Time, Timed};
+use av_flat::Time;
 use std::alloc::Global;
 
 // The greater of a count and the number after the greatest cycle of the points.
@@ -34,15 +32,13 @@ fn raised(time: &Time, points: &[Point], count: u128) -> u128
 }
 
 /// The greatest cycle of a computation, plus 1, and 0 where there is no computation.
-pub(crate) fn cycle_count(alloc: Global, timed: &Timed, places: &[usize]) -> Result<u128, Memory>
-    requires legal { IsLegal timed.now }
-    requires places { places.now ≡ places_of (view_system timed.now.flat) }
+pub(crate) fn cycle_count(alloc: Global, timed: &TimedNodes<'_>) -> Result<u128, Memory>
     ensures { IfOk result (IsCycles timed.now) }
 {
-    let times = timed.times.as_slice();
+    let times = timed.times();
     let mut count: u128 = 0;
-    for node in 0..places.len() {
-        let points = node_points(alloc, timed, places, node)?;
+    for node in 0..timed.len() {
+        let points = node_points(alloc, timed, node)?;
         count = raised(&times[node], points.as_slice(), count);
     }
     Ok(count)

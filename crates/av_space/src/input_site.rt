@@ -27,15 +27,10 @@ pub(crate) struct InputSite<'a> {
 }
 
 /// The direction of the helper of a reference.
-pub(crate) fn direction_of(
-    helpers: &[Helper],
-    place: usize,
-    piece: usize,
-    site: usize,
-) -> Option<Point>
+pub(crate) fn direction_of(helpers: &[Helper], place: usize, piece: u32, site: u32) -> Option<Point>
     ensures { result ≡ direction_of (helper_at helpers.now place piece site) }
 {
-    Some(helper_at(helpers, place, piece, site)?.direction)
+    Some(helper_at(helpers, place, piece as usize, site)?.direction)
 }
 
 impl InputSite<'_> {

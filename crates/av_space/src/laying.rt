@@ -5,7 +5,7 @@ ghost use Rattle.av_flat.specs.Legal.{IsLegal};
 ghost use Rattle.av_flat.specs.Trees.{view_system};
 ghost use Rattle.av_space.specs.Coordinates.{Placing, IsPlacing, ArePlacings};
 ghost use Rattle.av_space.specs.SpaceFaults.{IsCycles, IsSpaceFault};
-ghost use Rattle.av_flat.specs.Nodes.{places_of, numbers_of};
+ghost use Rattle.av_flat.specs.Nodes.{nodes};
 ghost use Rattle.av_space.specs.Layouts.{IsLayout};
 ghost use Rattle.av_space.specs.inner.Laying.{HasFewCycles, HasCellCount, AreCellsIn, AreFilled};
 
@@ -13,10 +13,10 @@ use crate::cells::Cell;
 use crate::cycles::cycle_count;
 use crate::fault::SpaceFault;
 use crate::layout::{Layout, Slot};
-use crate::node_places::{numbers, places};
 use crate::placement::Placement;
 use crate::placing::placements;
 use crate::ranked::{Ranked, node_ranked, run_end};
+use crate::timed_nodes::TimedNodes;
 use av_base::limits::{MOST_CELLS, MOST_CYCLES};
 use av_base::{List, Memory};
 use av_flat::Timed;
@@ -25,14 +25,12 @@ use std::alloc::Global;
 // The number of cells of a node.
 fn node_cells(
     alloc: Global,
-    timed: &Timed,
-    places: &[usize],
+    timed: &TimedNodes<'_>,
     node: usize,
     placement: &Placement,
 ) -> Result<usize, Memory>
     requires legal { IsLegal timed.now }
-    requires places { places.now ≡ places_of (view_system timed.now.flat) }
-    requires within { node < length places.now }
+    requires within { node < length (nodes (view_system timed.now.flat)) }
     requires placing { IsPlacing placement.now }
     requires time { slice_get timed.now.times node ≡ Some placement.now.time }
     requires ends { HasFewCycles timed.now }
@@ -41,7 +39,7 @@ fn node_cells(
         → HasCellCount (view_system timed.now.flat) placings node (node + 1) count) }
     ensures some { IfOk result (λ count. 0 < count) }
 {
-    let all = node_ranked(alloc, timed, places, node, placement)?;
+    let all = node_ranked(alloc, timed, node, placement)?;
     let ranked = all.as_slice();
     let mut count: usize = 0;
     let mut start: usize = 0;
@@ -55,22 +53,20 @@ fn node_cells(
 // The number of cells of all nodes, which is no less than that of the nodes.
 fn cell_count(
     alloc: Global,
-    timed: &Timed,
-    places: &[usize],
+    timed: &TimedNodes<'_>,
     placements: &List<Placement>,
 ) -> Result<u128, Memory>
-    requires legal { IsLegal timed.now }
-    requires places { places.now ≡ places_of (view_system timed.now.flat) }
     requires placings { ArePlacings timed.now.times placements.now }
     requires ends { HasFewCycles timed.now }
     ensures number { IfOk result
-        (HasCellCount (view_system timed.now.flat) placements.now 0 (length places.now)) }
-    ensures nodes { IfOk result (λ count. length places.now ≤ count) }
+        (HasCellCount (view_system timed.now.flat) placements.now 0
+        (length (nodes (view_system timed.now.flat)))) }
+    ensures nodes { IfOk result (λ count. length (nodes (view_system timed.now.flat)) ≤ count) }
 {
     let placements = placements.as_slice();
     let mut count: u128 = 0;
-    for node in 0..places.len() {
-        let cells = node_cells(alloc, timed, places, node, &placements[node])?;
+    for node in 0..timed.len() {
+        let cells = node_cells(alloc, timed, node, &placements[node])?;
         count += cells as u128;
     }
     Ok(count)
@@ -90,16 +86,14 @@ fn slots_of(alloc: Global, ranked: &[Ranked]) -> Result<List<Slot>, Memory>
 // Appends the cells of a node to those of the nodes before, with the computations on each.
 fn add_node(
     alloc: Global,
-    timed: &Timed,
-    places: &[usize],
+    timed: &TimedNodes<'_>,
     node: usize,
     placement: &Placement,
     cells: &mut List<Cell>,
     slots: &mut List<List<Slot>>,
 ) -> Result<(), Memory>
     requires legal { IsLegal timed.now }
-    requires places { places.now ≡ places_of (view_system timed.now.flat) }
-    requires within { node < length places.now }
+    requires within { node < length (nodes (view_system timed.now.flat)) }
     requires placing { IsPlacing placement.now }
     requires time { slice_get timed.now.times node ≡ Some placement.now.time }
     requires ends { HasFewCycles timed.now }
@@ -111,7 +105,7 @@ fn add_node(
         ≡ Some placement.now → AreFilled (view_system timed.now.flat) placings cells.old slots.old
         → AreFilled (view_system timed.now.flat) placings cells.new slots.new) }
 {
-    let all = node_ranked(alloc, timed, places, node, placement)?;
+    let all = node_ranked(alloc, timed, node, placement)?;
     let ranked = all.as_slice();
     let mut start: usize = 0;
     while start < ranked.len() {
@@ -130,27 +124,24 @@ fn add_node(
 // Puts the cells of all nodes into the lists, with the computations on each.
 fn add_nodes(
     alloc: Global,
-    timed: &Timed,
-    places: &[usize],
+    timed: &TimedNodes<'_>,
     placements: &List<Placement>,
     cells: &mut List<Cell>,
     slots: &mut List<List<Slot>>,
 ) -> Result<(), Memory>
-    requires legal { IsLegal timed.now }
-    requires places { places.now ≡ places_of (view_system timed.now.flat) }
     requires placings { ArePlacings timed.now.times placements.now }
     requires ends { HasFewCycles timed.now }
-    requires few { length places.now < 2 ^ 32 }
     requires cells { cells.old ≡ [] }
     requires slots { slots.old ≡ [] }
     ensures cells { OnOk result
-        (AreCellsIn (view_system timed.now.flat) placements.now 0 (length places.now) cells.new) }
+        (AreCellsIn (view_system timed.now.flat) placements.now 0
+        (length (nodes (view_system timed.now.flat))) cells.new) }
     ensures slots { OnOk result
         (AreFilled (view_system timed.now.flat) placements.now cells.new slots.new) }
 {
     let placements = placements.as_slice();
-    for node in 0..places.len() {
-        add_node(alloc, timed, places, node, &placements[node], cells, slots)?;
+    for node in 0..timed.len() {
+        add_node(alloc, timed, node, &placements[node], cells, slots)?;
     }
     Ok(())
 }
@@ -165,58 +156,36 @@ struct Filled {
 // The cells of all nodes of a system with few cycles.
 fn cells_filled(
     alloc: Global,
-    timed: &Timed,
-    places: &List<usize>,
+    timed: &TimedNodes<'_>,
     placements: &List<Placement>,
 ) -> Result<Filled, Memory>
-    requires legal { IsLegal timed.now }
-    requires places { places.now ≡ places_of (view_system timed.now.flat) }
     requires placings { ArePlacings timed.now.times placements.now }
     requires ends { HasFewCycles timed.now }
-    requires few { length places.now ≤ 2048 }
     ensures cells { IfOk result (λ f.
-        AreCellsIn (view_system timed.now.flat) placements.now 0 (length places.now) f.cells) }
+        AreCellsIn (view_system timed.now.flat) placements.now 0
+        (length (nodes (view_system timed.now.flat))) f.cells) }
     ensures slots { IfOk result (λ f.
         AreFilled (view_system timed.now.flat) placements.now f.cells f.slots) }
 {
     let mut cells = List::new(alloc);
     let mut slots = List::new(alloc);
-    add_nodes(
-        alloc,
-        timed,
-        places.as_slice(),
-        placements,
-        &mut cells,
-        &mut slots,
-    )?;
+    add_nodes(alloc, timed, placements, &mut cells, &mut slots)?;
     Ok(Filled { cells, slots })
 }
 
 // The layout of a system with few cycles and cells.
-fn laid(
-    _timed: &Timed,
-    placements: List<Placement>,
-    places: List<usize>,
-    numbers: List<usize>,
-    filled: Filled,
-    cycles: u32,
-) -> Layout
-    requires legal { IsLegal _timed.now }
+fn laid(_timed: &TimedNodes<'_>, placements: List<Placement>, filled: Filled, cycles: u32) -> Layout
     requires placings { ArePlacings _timed.now.times placements }
-    requires places { places ≡ places_of (view_system _timed.now.flat) }
-    requires numbers { numbers ≡ numbers_of (view_system _timed.now.flat) }
     requires cycles { IsCycles _timed.now cycles }
     requires limit { cycles ≤ 4096 }
     requires cells { AreCellsIn (view_system _timed.now.flat) placements 0
-        (length places) filled.cells }
+        (length (nodes (view_system _timed.now.flat))) filled.cells }
     requires slots { AreFilled (view_system _timed.now.flat) placements filled.cells filled.slots }
     requires few { length filled.cells ≤ 2048 }
     ensures { IsLayout _timed.now result }
 {
     Layout {
         placements,
-        places,
-        numbers,
         cells: filled.cells,
         slots: filled.slots,
         cycles,
@@ -224,14 +193,12 @@ fn laid(
 }
 
 // The number of cycles, if it is within its limit.
-fn limited_cycles(alloc: Global, timed: &Timed, places: &[usize]) -> Result<u32, SpaceFault>
-    requires legal { IsLegal timed.now }
-    requires places { places.now ≡ places_of (view_system timed.now.flat) }
+fn limited_cycles(alloc: Global, timed: &TimedNodes<'_>) -> Result<u32, SpaceFault>
     ensures cycles { IfOk result (IsCycles timed.now) }
     ensures limit { IfOk result (λ cycles. cycles ≤ 4096) }
     ensures refused { IfErr result (IsSpaceFault timed.now) }
 {
-    let cycles = cycle_count(alloc, timed, places)?;
+    let cycles = cycle_count(alloc, timed)?;
     if cycles > MOST_CYCLES {
         return Err(SpaceFault::Cycles(cycles));
     }
@@ -241,22 +208,19 @@ fn limited_cycles(alloc: Global, timed: &Timed, places: &[usize]) -> Result<u32,
 // Refuses a system with more nodes than it may have cells. Its cells are counted and not made.
 fn limit_nodes(
     alloc: Global,
-    timed: &Timed,
-    places: &[usize],
+    timed: &TimedNodes<'_>,
     placements: &List<Placement>,
     cycles: u32,
 ) -> Result<(), SpaceFault>
-    requires legal { IsLegal timed.now }
-    requires places { places.now ≡ places_of (view_system timed.now.flat) }
     requires placings { ArePlacings timed.now.times placements.now }
     requires cycles { IsCycles timed.now cycles }
     requires limit { cycles ≤ 4096 }
-    ensures few { OnOk result (length places.now ≤ 2048) }
+    ensures few { OnOk result (length (nodes (view_system timed.now.flat)) ≤ 2048) }
     ensures refused { IfErr result (IsSpaceFault timed.now) }
 {
-    let nodes = places.len() as u128;
+    let nodes = timed.len() as u128;
     if nodes > MOST_CELLS {
-        let count = cell_count(alloc, timed, places, placements)?;
+        let count = cell_count(alloc, timed, placements)?;
         return Err(SpaceFault::Cells(count));
     }
     Ok(())
@@ -264,16 +228,14 @@ fn limit_nodes(
 
 // Refuses a system with too many cells.
 fn limit_cells(
-    _timed: &Timed,
-    _places: &List<usize>,
+    _timed: &TimedNodes<'_>,
     _placements: &List<Placement>,
     cells: &List<Cell>,
     _cycles: u32,
 ) -> Result<(), SpaceFault>
-    requires places { _places.now ≡ places_of (view_system _timed.now.flat) }
     requires placings { ArePlacings _timed.now.times _placements.now }
     requires cells { AreCellsIn (view_system _timed.now.flat) _placements.now 0
-        (length _places.now) cells.now }
+        (length (nodes (view_system _timed.now.flat))) cells.now }
     requires cycles { IsCycles _timed.now _cycles }
     requires limit { _cycles ≤ 4096 }
     ensures few { OnOk result (length cells.now ≤ 2048) }
@@ -286,6 +248,19 @@ fn limit_cells(
     Ok(())
 }
 
+// The layout of a system, or the first of the cycles and the cells that are above their limit.
+fn layout_of(alloc: Global, timed: &TimedNodes<'_>) -> Result<Layout, SpaceFault>
+    ensures whole { IfOk result (IsLayout timed.now) }
+    ensures refused { IfErr result (IsSpaceFault timed.now) }
+{
+    let cycles = limited_cycles(alloc, timed)?;
+    let placements = placements(alloc, timed)?;
+    limit_nodes(alloc, timed, &placements, cycles)?;
+    let filled = cells_filled(alloc, timed, &placements)?;
+    limit_cells(timed, &placements, &filled.cells, cycles)?;
+    Ok(laid(timed, placements, filled, cycles))
+}
+
 /// The layout of a legal timed system, or the first of the cycles and the cells that are above their limit. The cells are counted once
 /// they stand, so that each node's points are ordered once.
 pub fn lay_out(alloc: Global, timed: &Timed) -> Result<Layout, SpaceFault>
@@ -293,12 +268,6 @@ pub fn lay_out(alloc: Global, timed: &Timed) -> Result<Layout, SpaceFault>
     ensures whole { IfOk result (IsLayout timed.now) }
     ensures refused { IfErr result (IsSpaceFault timed.now) }
 {
-    let places = places(alloc, &timed.flat)?;
-    let numbers = numbers(alloc, &timed.flat)?;
-    let cycles = limited_cycles(alloc, timed, places.as_slice())?;
-    let placements = placements(alloc, timed)?;
-    limit_nodes(alloc, timed, places.as_slice(), &placements, cycles)?;
-    let filled = cells_filled(alloc, timed, &places, &placements)?;
-    limit_cells(timed, &places, &placements, &filled.cells, cycles)?;
-    Ok(laid(timed, placements, places, numbers, filled, cycles))
+    let nodes = TimedNodes::new(alloc, timed)?;
+    layout_of(alloc, &nodes)
 }

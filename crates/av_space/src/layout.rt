@@ -28,10 +28,6 @@ impl Slot {
 pub struct Layout {
     /// By node.
     pub(crate) placements: List<Placement>,
-    /// Of each node its place among the variables.
-    pub(crate) places: List<usize>,
-    /// Of each variable how many nodes stand before it.
-    pub(crate) numbers: List<usize>,
     pub(crate) cells: List<Cell>,
     /// Of each cell its computations by cycle.
     pub(crate) slots: List<List<Slot>>,

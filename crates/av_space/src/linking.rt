@@ -1,28 +1,29 @@
-//! Links of the array: the stretches of all tap sites of all cells.
+//! Links of the array, of all tap sites of all cells.
 
 ghost use Rattle.std.specs.Prelude.{ℕ, ◌≡◌, ◌↔◌, ◌<◌, List as Items, length, Contains, Some, slice_get, slice_index_or, [], map, IfOk, IfSome, OnOk};
 ghost use Rattle.av_flat.specs.Trees.{Piece as PieceSeen, view_piece, view_system, view_variable};
-ghost use Rattle.av_flat.specs.Legal.{IsLegal};
 ghost use Rattle.av_space.specs.declared.layout.Slot.{Slot as SlotSeen};
 ghost use Rattle.av_flat.specs.Nodes.{node_place};
 ghost use Rattle.av_space.specs.Taps.{taps, IsTapped};
-ghost use Rattle.av_space.specs.Links.{AreLinks};
-ghost use Rattle.av_space.specs.Layouts.{IsLayout};
 ghost use Rattle.av_space.specs.inner.Apart.{AreOfNode};
 ghost use Rattle.av_space.specs.inner.Sites.{tap_of, AreNodeTaps};
 ghost use Rattle.av_space.specs.inner.Readings.{IsFineTap, IsSite, HasSite, IsReadingAt, IsReadingOf, AreReadings, IsConsumer, AreOwn};
+ghost use Rattle.av_space.specs.inner.Quantified.{LinksOf};
+ghost use Rattle.av_space.specs.inner.Scheduled.{IsScheduled, system_of, helpers_of, placings_of, cells_of};
 ghost use Rattle.av_space.specs.inner.Stretches.{HasLinks, IsAt, IsOn};
 
 use crate::apart::slots_in;
-use crate::layout::{Layout, Slot};
+use crate::cells::Link;
+use crate::layout::Slot;
 use crate::locate::locate;
-use crate::node_places::variable_of;
 use crate::reading::{is_in, read_at};
-use crate::stretch::{Stretch, TapReading, site_stretches};
+use crate::scheduled::ScheduledSystem;
+use crate::stretch::{TapReading, site_links};
 use crate::tap::TapSite;
 use crate::tapping::taps_of;
+use crate::timed_nodes::TimedNodes;
 use av_base::{List, Memory};
-use av_flat::{Piece, Timed, Var};
+use av_flat::{Piece, Var};
 use std::alloc::Global;
 
 /// A cell that reads: its number, its node with the variable, and its computations.
@@ -36,30 +37,29 @@ struct Consumer<'a> {
 
 /// What a tap site reads at a computation of its cell.
 pub(crate) fn reading_at(
-    timed: &Timed,
-    layout: &Layout,
+    scheduled: &ScheduledSystem<'_>,
     node: usize,
     site: &TapSite<'_>,
     piece: &Piece,
     slot: &Slot,
 ) -> Option<TapReading>
-    requires legal { IsLegal timed.now }
-    requires layout { IsLayout timed.now layout.now }
-    requires fine { IsFineTap piece.now.domain.dim (length timed.now.flat.vars) (tap_of site.now) }
-    requires site { (slots : Items SlotSeen)
-        × Contains slots slot.now × IsSite (view_system timed.now.flat) timed.now.helpers
-        layout.now.placements layout.now.cells node (tap_of site.now) (view_piece piece.now) slots }
+    requires fine { IsFineTap piece.now.domain.dim
+        (length scheduled.now.timed.flat.vars) (tap_of site.now) }
+    requires site { (slots : Items SlotSeen) × Contains slots slot.now
+        × IsSite (system_of scheduled.now) (helpers_of scheduled.now) (placings_of scheduled.now)
+        (cells_of scheduled.now) node (tap_of site.now) (view_piece piece.now) slots }
     ensures cycle { IfSome result (λ r. r.cycle ≡ slot.now.cycle) }
-    ensures reading { (q d : ℕ)
-        → IsReadingAt (view_system timed.now.flat) layout.now.placements layout.now.cells node
+    ensures reading { (q d : ℕ) → IsReadingAt
+        (system_of scheduled.now) (placings_of scheduled.now) (cells_of scheduled.now) node
         (tap_of site.now) (view_piece piece.now) slot.now.point slot.now.cycle q d
         ↔ (result ≡ Some (record { cycle = slot.now.cycle; producer = q; delay = d })) }
 {
+    let timed = scheduled.timed();
     if !is_in(&piece.domain, &slot.point) {
         return None;
     }
-    let read = read_at(timed, layout, node, site, piece, &slot.point)?;
-    let located = locate(timed, layout, read.node, &read.point);
+    let read = read_at(timed, node, site, piece, &slot.point)?;
+    let located = locate(scheduled, read.node, &read.point);
     Some(TapReading {
         cycle: slot.cycle,
         producer: located.cell,
@@ -70,25 +70,24 @@ pub(crate) fn reading_at(
 // What a tap site reads at those computations on its cell that are points of its piece, by cycle.
 fn readings(
     alloc: Global,
-    timed: &Timed,
-    layout: &Layout,
+    scheduled: &ScheduledSystem<'_>,
     node: usize,
     site: &TapSite<'_>,
     piece: &Piece,
     slots: &[Slot],
 ) -> Result<List<TapReading>, Memory>
-    requires legal { IsLegal timed.now }
-    requires layout { IsLayout timed.now layout.now }
-    requires fine { IsFineTap piece.now.domain.dim (length timed.now.flat.vars) (tap_of site.now) }
-    requires site { HasSite (view_system timed.now.flat) timed.now.helpers layout.now.placements
-        layout.now.cells node (tap_of site.now) (view_piece piece.now) slots.now }
-    ensures { IfOk result (AreReadings
-        (IsReadingOf (view_system timed.now.flat) layout.now.placements layout.now.cells node
+    requires fine { IsFineTap piece.now.domain.dim
+        (length scheduled.now.timed.flat.vars) (tap_of site.now) }
+    requires site { HasSite (system_of scheduled.now) (helpers_of scheduled.now)
+        (placings_of scheduled.now) (cells_of scheduled.now) node (tap_of site.now)
+        (view_piece piece.now) slots.now }
+    ensures { IfOk result (AreReadings (IsReadingOf
+        (system_of scheduled.now) (placings_of scheduled.now) (cells_of scheduled.now) node
         (tap_of site.now) (view_piece piece.now) slots.now)) }
 {
     let mut readings = List::new(alloc);
     for slot in slots {
-        if let Some(reading) = reading_at(timed, layout, node, site, piece, slot) {
+        if let Some(reading) = reading_at(scheduled, node, site, piece, slot) {
             readings.push(reading)?;
         }
     }
@@ -111,62 +110,60 @@ fn slots_at(own: &[List<Slot>], piece: usize) -> &[Slot]
     own[piece].as_slice()
 }
 
-// Appends the stretches of a tap site of a cell.
-fn tap_stretches(
+// Appends the links of a tap site of a cell.
+fn tap_links(
     alloc: Global,
-    timed: &Timed,
-    layout: &Layout,
+    scheduled: &ScheduledSystem<'_>,
     consumer: &Consumer<'_>,
-    number: usize,
+    number: u32,
     site: &TapSite<'_>,
     own: &[List<Slot>],
-    stretches: &mut List<Stretch>,
+    links: &mut List<Link>,
 ) -> Result<(), Memory>
-    requires legal { IsLegal timed.now }
-    requires layout { IsLayout timed.now layout.now }
-    requires consumer { IsConsumer (view_system timed.now.flat)
-        layout.now.placements layout.now.cells consumer.now.number consumer.now.node
+    requires scheduled { IsScheduled scheduled.now }
+    requires consumer { IsConsumer (system_of scheduled.now)
+        (placings_of scheduled.now) (cells_of scheduled.now) consumer.now.number consumer.now.node
         (view_variable consumer.now.var.now) consumer.now.slots.now }
-    requires site { slice_get (taps (view_system timed.now.flat) timed.now.helpers (node_place
-        (view_system timed.now.flat) consumer.now.node) (view_variable consumer.now.var.now)) number
+    requires site { slice_get (taps (system_of scheduled.now) (helpers_of scheduled.now) (node_place
+        (system_of scheduled.now) consumer.now.node) (view_variable consumer.now.var.now)) number
         ≡ Some (tap_of site.now) }
     requires own { AreOwn (view_variable consumer.now.var.now) consumer.now.slots.now own.now }
-    ensures { OnOk result (HasLinks (IsTapped
-        (view_system timed.now.flat) timed.now.helpers layout.now.placements layout.now.cells)
-        (IsAt consumer.now.number number) stretches.old stretches.new) }
+    ensures { OnOk result (HasLinks (IsTapped (system_of scheduled.now)
+        (helpers_of scheduled.now) (placings_of scheduled.now) (cells_of scheduled.now))
+        (IsAt consumer.now.number number) links.old links.new) }
 {
     let place = site.piece();
     let piece = piece_at(consumer.var, place);
     let slots = slots_at(own, place);
-    let readings = readings(alloc, timed, layout, consumer.node, site, piece, slots)?;
-    site_stretches(consumer.number, number, readings.as_slice(), stretches)
+    let readings = readings(alloc, scheduled, consumer.node, site, piece, slots)?;
+    site_links(consumer.number, number, readings.as_slice(), links)
 }
 
-// Appends the stretches of all tap sites of a cell.
-fn cell_stretches(
+// Appends the links of all tap sites of a cell.
+fn cell_links(
     alloc: Global,
-    timed: &Timed,
-    layout: &Layout,
+    scheduled: &ScheduledSystem<'_>,
     consumer: &Consumer<'_>,
-    sites: &[TapSite<'_>],
+    sites: &List<TapSite<'_>>,
     own: &[List<Slot>],
-    stretches: &mut List<Stretch>,
+    links: &mut List<Link>,
 ) -> Result<(), Memory>
-    requires legal { IsLegal timed.now }
-    requires layout { IsLayout timed.now layout.now }
-    requires consumer { IsConsumer (view_system timed.now.flat)
-        layout.now.placements layout.now.cells consumer.now.number consumer.now.node
+    requires scheduled { IsScheduled scheduled.now }
+    requires consumer { IsConsumer (system_of scheduled.now)
+        (placings_of scheduled.now) (cells_of scheduled.now) consumer.now.number consumer.now.node
         (view_variable consumer.now.var.now) consumer.now.slots.now }
-    requires sites { map tap_of sites.now ≡ taps (view_system timed.now.flat) timed.now.helpers
-        (node_place (view_system timed.now.flat) consumer.now.node)
+    requires sites { map tap_of sites.now
+        ≡ taps (system_of scheduled.now) (helpers_of scheduled.now)
+        (node_place (system_of scheduled.now) consumer.now.node)
         (view_variable consumer.now.var.now) }
     requires own { AreOwn (view_variable consumer.now.var.now) consumer.now.slots.now own.now }
-    ensures { OnOk result (HasLinks (IsTapped
-        (view_system timed.now.flat) timed.now.helpers layout.now.placements layout.now.cells)
-        (IsOn consumer.now.number) stretches.old stretches.new) }
+    ensures { OnOk result (HasLinks (IsTapped (system_of scheduled.now)
+        (helpers_of scheduled.now) (placings_of scheduled.now) (cells_of scheduled.now))
+        (IsOn consumer.now.number) links.old links.new) }
 {
-    for (number, site) in sites.iter().enumerate() {
-        tap_stretches(alloc, timed, layout, consumer, number, site, own, stretches)?;
+    for number in 0..sites.len() {
+        let site = site_at(sites.as_slice(), number);
+        tap_links(alloc, scheduled, consumer, number as u32, site, own, links)?;
     }
     Ok(())
 }
@@ -174,34 +171,33 @@ fn cell_stretches(
 /// The tap sites of each node.
 pub(crate) fn node_taps<'a>(
     alloc: Global,
-    timed: &'a Timed,
-    layout: &Layout,
+    timed: &TimedNodes<'a>,
 ) -> Result<List<List<TapSite<'a>>>, Memory>
-    requires layout { IsLayout timed.now layout.now }
     ensures { IfOk result (AreNodeTaps (view_system timed.now.flat) timed.now.helpers) }
 {
     let mut sites = List::new(alloc);
-    for (node, place) in layout.places.as_slice().iter().enumerate() {
-        let var = variable_of(&timed.flat, layout.places.as_slice(), node);
-        sites.push(taps_of(alloc, timed, *place, var)?)?;
+    for node in 0..timed.len() {
+        let var = timed.variable(node);
+        let taps = taps_of(alloc, timed.system(), timed.place(node), var)?;
+        sites.push(taps)?;
     }
     Ok(sites)
 }
 
 // The cell with this number, as one that reads.
-fn consumer_at<'a>(timed: &'a Timed, layout: &'a Layout, number: usize) -> Consumer<'a>
-    requires layout { IsLayout timed.now layout.now }
-    requires number { number < length layout.now.cells }
+fn consumer_at<'a>(scheduled: &ScheduledSystem<'a>, number: usize) -> Consumer<'a>
+    requires { number < length (cells_of scheduled.now) }
     ensures number { result.number ≡ number }
-    ensures consumer { IsConsumer (view_system timed.now.flat) layout.now.placements
-        layout.now.cells result.number result.node (view_variable result.var.now) result.slots.now }
+    ensures consumer { IsConsumer (system_of scheduled.now)
+        (placings_of scheduled.now) (cells_of scheduled.now) result.number result.node
+        (view_variable result.var.now) result.slots.now }
 {
-    let node = layout.cells.as_slice()[number].node as usize;
+    let node = scheduled.cells()[number].node as usize;
     Consumer {
         number: number as u32,
         node,
-        var: variable_of(&timed.flat, layout.places.as_slice(), node),
-        slots: layout.slots.as_slice()[number].as_slice(),
+        var: scheduled.variable(node),
+        slots: scheduled.slots()[number].as_slice(),
     }
 }
 
@@ -221,39 +217,42 @@ fn slots_of_pieces(alloc: Global, consumer: &Consumer<'_>) -> Result<List<List<S
 }
 
 /// The tap sites of a node.
-pub(crate) fn taps_of_node<'s, 'a>(sites: &'s [List<TapSite<'a>>], node: usize) -> &'s [TapSite<'a>]
+pub(crate) fn taps_of_node<'s, 'a>(
+    sites: &'s [List<TapSite<'a>>],
+    node: usize,
+) -> &'s List<TapSite<'a>>
     requires { node < length sites.now }
     ensures { result.now ≡ slice_index_or sites.now node [] }
 {
-    sites[node].as_slice()
+    &sites[node]
 }
 
-/// The stretches of all tap sites of all cells: the links of the array, with the numbers of tap sites as they are.
-pub(crate) fn stretches(
-    alloc: Global,
-    timed: &Timed,
-    layout: &Layout,
-) -> Result<List<Stretch>, Memory>
-    requires legal { IsLegal timed.now }
-    requires layout { IsLayout timed.now layout.now }
-    ensures { IfOk result (AreLinks
-        (view_system timed.now.flat) timed.now.helpers layout.now.placements layout.now.cells) }
+/// The tap site with this number.
+pub(crate) fn site_at<'s, 'a>(sites: &'s [TapSite<'a>], number: usize) -> &'s TapSite<'a>
+    requires { number < length sites.now }
+    ensures { slice_get sites.now number ≡ Some result.now }
 {
-    let sites = node_taps(alloc, timed, layout)?;
-    let mut stretches = List::new(alloc);
-    for number in 0..layout.cells.as_slice().len() {
-        let consumer = consumer_at(timed, layout, number);
+    &sites[number]
+}
+
+/// The links of the array: those of all tap sites of all cells.
+pub(crate) fn links(alloc: Global, scheduled: &ScheduledSystem<'_>) -> Result<List<Link>, Memory>
+    ensures { IfOk result (LinksOf scheduled.now) }
+{
+    let sites = node_taps(alloc, scheduled.timed())?;
+    let mut links = List::new(alloc);
+    for number in 0..scheduled.cells().len() {
+        let consumer = consumer_at(scheduled, number);
         let own = taps_of_node(sites.as_slice(), consumer.node);
         let slots = slots_of_pieces(alloc, &consumer)?;
-        cell_stretches(
+        cell_links(
             alloc,
-            timed,
-            layout,
+            scheduled,
             &consumer,
             own,
             slots.as_slice(),
-            &mut stretches,
+            &mut links,
         )?;
     }
-    Ok(stretches)
+    Ok(links)
 }

@@ -1,17 +1,15 @@
 //! Where and when a computation stands.
 
 ghost use Rattle.std.specs.Prelude.{◌≡◌, ◌<◌, ◌↔◌, IsTrue, Some, length, slice_get, AllPairs, Contains};
-ghost use Rattle.av_flat.specs.Trees.{view_system};
 ghost use Rattle.av_flat.specs.Nodes.{IsComputation};
-ghost use Rattle.av_flat.specs.Legal.{IsLegal};
 ghost use Rattle.av_flat.specs.Order.{IsBefore};
 ghost use Rattle.av_space.specs.Occupancy.{IsCellBefore, Computes};
-ghost use Rattle.av_space.specs.Layouts.{IsLayout};
+ghost use Rattle.av_space.specs.inner.Scheduled.{system_of, placings_of, cells_of};
 
 use crate::cells::Cell;
-use crate::layout::{Layout, Located};
+use crate::layout::Located;
+use crate::scheduled::ScheduledSystem;
 use av_base::Point;
-use av_flat::Timed;
 
 // Whether the first entries come before the second.
 fn is_before(a: &[i64], b: &[i64]) -> bool
@@ -59,17 +57,15 @@ fn cell_at(cells: &[Cell], node: usize, at: &Point) -> usize
 }
 
 /// The cell that computes a point of a node, and the cycle in which it does.
-pub(crate) fn locate(timed: &Timed, layout: &Layout, node: usize, z: &Point) -> Located
-    requires legal { IsLegal timed.now }
-    requires layout { IsLayout timed.now layout.now }
-    requires computation { IsComputation (view_system timed.now.flat) node z.now }
-    ensures { Computes (view_system timed.now.flat)
-        layout.now.placements layout.now.cells result.cell result.cycle node z.now }
+pub(crate) fn locate(scheduled: &ScheduledSystem<'_>, node: usize, z: &Point) -> Located
+    requires { IsComputation (system_of scheduled.now) node z.now }
+    ensures { Computes (system_of scheduled.now)
+        (placings_of scheduled.now) (cells_of scheduled.now) result.cell result.cycle node z.now }
 {
-    let placements = layout.placements.as_slice();
+    let placements = scheduled.placements();
     let placement = &placements[node];
     let at = placement.coordinates(z);
-    let cell = cell_at(layout.cells.as_slice(), node, &at);
+    let cell = cell_at(scheduled.cells(), node, &at);
     Located {
         cell: cell as u32,
         cycle: placement.cycle(z) as u32,

@@ -2,27 +2,27 @@
 
 ghost use Rattle.std.specs.Prelude.{◌≡◌, ◌≤◌, ◌^◌, length, IfOk, IfErr};
 ghost use Rattle.av_flat.specs.Legal.{IsLegal};
-ghost use Rattle.av_flat.specs.Trees.{view_system};
 ghost use Rattle.av_space.specs.declared.fault.SpaceFault.{SpaceFault as Fault};
 ghost use Rattle.av_space.specs.declared.fault.SpaceFault.TheVariants as fault;
 ghost use Rattle.av_space.specs.SpaceFaults.{IsSpaceFault};
 ghost use Rattle.av_space.specs.Whole.{IsWhole};
 ghost use Rattle.av_space.specs.Layouts.{IsLayout};
-ghost use Rattle.av_space.specs.Listings.{AreInLines, AreAtLines};
-ghost use Rattle.av_space.specs.Ports.{ArePorts, output_cells};
-ghost use Rattle.av_space.specs.inner.Quantified.{HasOperators, AreWithin, IsLaidOut, LinksOf, delays_of};
+ghost use Rattle.av_space.specs.Listings.{AreAtLines};
+ghost use Rattle.av_space.specs.Ports.{output_cells};
+ghost use Rattle.av_space.specs.inner.Quantified.{AreWithin, IsLaidOut, LinksOf, delays_of};
+ghost use Rattle.av_space.specs.inner.Scheduled.{IsScheduled, system_of, placings_of, cells_of};
 
 use crate::cells::{Cell, Cells, Link};
 use crate::fault::SpaceFault;
 use crate::laying::lay_out;
 use crate::layout::Layout;
 use crate::lines::delay_count;
-use crate::linking::stretches;
-use crate::numbered::links;
+use crate::linking::links;
 use crate::operators::operators;
-use crate::ports::{Ports, input_ports};
+use crate::ports::input_ports;
+use crate::scheduled::ScheduledSystem;
 use crate::shown::{at_lines, output_cells};
-use crate::stretch::Stretch;
+use crate::timed_nodes::TimedNodes;
 use av_base::limits::{MOST_DELAYS, MOST_LINKS, MOST_OPERATORS};
 use av_base::{List, Memory};
 use av_flat::Timed;
@@ -32,36 +32,27 @@ use std::alloc::Global;
 // The registers of the delay lines, where these, the links and the operators are within their limits.
 fn within_limits(
     alloc: Global,
-    timed: &Timed,
-    layout: &Layout,
-    stretches: &[Stretch],
+    scheduled: &ScheduledSystem<'_>,
+    links: &[Link],
 ) -> Result<u32, SpaceFault>
-    requires legal { IsLegal timed.now }
-    requires layout { IsLayout timed.now layout.now }
-    requires links { LinksOf timed.now layout.now stretches.now }
-    ensures delays { IfOk result (λ n. n ≡ delays_of timed.now layout.now stretches.now) }
-    ensures within { IfOk result (λ n. AreWithin timed.now layout.now stretches.now) }
-    ensures refused { IfErr result (IsSpaceFault timed.now) }
+    requires scheduled { IsScheduled scheduled.now }
+    requires links { LinksOf scheduled.now links.now }
+    ensures delays { IfOk result (λ n. n ≡ delays_of scheduled.now links.now) }
+    ensures within { IfOk result (λ n. AreWithin scheduled.now links.now) }
+    ensures refused { IfErr result (IsSpaceFault scheduled.now.timed) }
 {
-    let delays = delay_count(alloc, timed, layout, stretches)?;
+    let delays = delay_count(alloc, scheduled, links)?;
     if delays > MOST_DELAYS {
         return Err(SpaceFault::Delays(delays));
     }
-    if stretches.len() > MOST_LINKS {
-        return Err(SpaceFault::Links(stretches.len() as u128));
+    if links.len() > MOST_LINKS {
+        return Err(SpaceFault::Links(links.len() as u128));
     }
-    let operators = operators(alloc, timed, layout)?;
+    let operators = operators(alloc, scheduled)?;
     if operators > MOST_OPERATORS {
         return Err(SpaceFault::Operators(operators));
     }
     Ok(delays as u32)
-}
-
-// What joins the cells of an array: links, and input ports with the lines of the reads at them.
-#[derive(Drop)]
-struct Joined {
-    links: List<Link>,
-    ports: Ports,
 }
 
 // The numbers of the cells of outputs, and where each computed point is shown.
@@ -71,41 +62,16 @@ struct Shown {
     ats: List<Entry>,
 }
 
-// The links and the input ports of a layout.
-fn join_cells(
-    alloc: Global,
-    timed: &Timed,
-    layout: &Layout,
-    stretches: &[Stretch],
-) -> Result<Joined, Memory>
-    requires legal { IsLegal timed.now }
-    requires layout { IsLayout timed.now layout.now }
-    requires links { LinksOf timed.now layout.now stretches.now }
-    requires few { HasOperators timed.now layout.now 1048576 }
-    ensures links { IfOk result (λ made. made.links ≡ stretches.now) }
-    ensures ports { IfOk result (λ made. ArePorts (view_system timed.now.flat)
-        timed.now.helpers layout.now.placements layout.now.cells made.ports.inputs) }
-    ensures lines { IfOk result (λ made. AreInLines (view_system timed.now.flat)
-        timed.now.helpers layout.now.placements layout.now.cells made.ports.inputs made.ports.ins) }
-    ensures few { IfOk result (λ made. length made.ports.inputs ≤ 2 ^ 64) }
-{
-    let links = links(alloc, stretches)?;
-    let ports = input_ports(alloc, timed, layout)?;
-    Ok(Joined { links, ports })
-}
-
 // The outputs of a layout, and its lines of computed points.
-fn show_points(alloc: Global, timed: &Timed, layout: &Layout) -> Result<Shown, Memory>
-    requires legal { IsLegal timed.now }
-    requires layout { IsLayout timed.now layout.now }
+fn show_points(alloc: Global, scheduled: &ScheduledSystem<'_>) -> Result<Shown, Memory>
     ensures outputs { IfOk result (λ made.
-        made.outputs ≡ output_cells (view_system timed.now.flat) layout.now.cells) }
-    ensures lines { IfOk result (λ made. AreAtLines
-        (view_system timed.now.flat) layout.now.placements layout.now.cells made.outputs made.ats) }
+        made.outputs ≡ output_cells (system_of scheduled.now) (cells_of scheduled.now)) }
+    ensures lines { IfOk result (λ made. AreAtLines (system_of scheduled.now)
+        (placings_of scheduled.now) (cells_of scheduled.now) made.outputs made.ats) }
     ensures few { IfOk result (λ made. length made.outputs ≤ 2 ^ 64) }
 {
-    let outputs = output_cells(alloc, timed, layout)?;
-    let ats = at_lines(alloc, timed, layout, outputs.as_slice())?;
+    let outputs = output_cells(alloc, scheduled)?;
+    let ats = at_lines(alloc, scheduled, outputs.as_slice())?;
     Ok(Shown { outputs, ats })
 }
 
@@ -120,54 +86,45 @@ fn copied_cells(alloc: Global, cells: &[Cell]) -> Result<List<Cell>, Memory>
     Ok(copy)
 }
 
-// The array of a layout whose quantities are within their limits.
+// The array of a layout, with these links and so many registers.
 fn laid_out(
     alloc: Global,
-    timed: &Timed,
-    layout: &Layout,
-    stretches: &[Stretch],
+    scheduled: &ScheduledSystem<'_>,
+    links: List<Link>,
     delays: u32,
 ) -> Result<Cells, Memory>
-    requires legal { IsLegal timed.now }
-    requires layout { IsLayout timed.now layout.now }
-    requires links { LinksOf timed.now layout.now stretches.now }
-    requires delays { delays ≡ delays_of timed.now layout.now stretches.now }
-    requires few { HasOperators timed.now layout.now 1048576 }
-    ensures { IfOk result (IsLaidOut timed.now layout.now stretches.now) }
+    requires links { LinksOf scheduled.now links }
+    requires delays { delays ≡ delays_of scheduled.now links }
+    ensures { IfOk result (IsLaidOut scheduled.now.timed) }
 {
-    let joined = join_cells(alloc, timed, layout, stretches)?;
-    let shown = show_points(alloc, timed, layout)?;
-    let cells = copied_cells(alloc, layout.cells.as_slice())?;
+    let ports = input_ports(alloc, scheduled)?;
+    let shown = show_points(alloc, scheduled)?;
+    let cells = copied_cells(alloc, scheduled.cells())?;
     Ok(Cells {
         cells,
-        links: joined.links,
-        inputs: joined.ports.inputs,
+        links,
+        inputs: ports.inputs,
         outputs: shown.outputs,
         listing: Listing {
-            ins: joined.ports.ins,
+            ins: ports.ins,
             ats: shown.ats,
         },
-        cycles: layout.cycles,
+        cycles: scheduled.cycles(),
         delays,
     })
 }
 
-// The array of a layout, where its quantities are within their limits.
-fn limited(
-    alloc: Global,
-    timed: &Timed,
-    layout: &Layout,
-    stretches: &[Stretch],
-) -> Result<Cells, SpaceFault>
-    requires legal { IsLegal timed.now }
-    requires layout { IsLayout timed.now layout.now }
-    requires links { LinksOf timed.now layout.now stretches.now }
-    ensures laid { IfOk result (IsLaidOut timed.now layout.now stretches.now) }
-    ensures within { IfOk result (λ a. AreWithin timed.now layout.now stretches.now) }
-    ensures refused { IfErr result (IsSpaceFault timed.now) }
+// The array of a system with its layout, where its quantities are within their limits.
+fn mapped(alloc: Global, scheduled: &ScheduledSystem<'_>) -> Result<Cells, SpaceFault>
+    requires { IsScheduled scheduled.now }
+    ensures whole { IfOk result (IsWhole scheduled.now.timed) }
+    ensures complete { IfOk result (λ a. (f : Fault)
+        → IsSpaceFault scheduled.now.timed f → f ≡ fault.Memory) }
+    ensures refused { IfErr result (IsSpaceFault scheduled.now.timed) }
 {
-    let delays = within_limits(alloc, timed, layout, stretches)?;
-    let cells = laid_out(alloc, timed, layout, stretches, delays)?;
+    let links = links(alloc, scheduled)?;
+    let delays = within_limits(alloc, scheduled, links.as_slice())?;
+    let cells = laid_out(alloc, scheduled, links, delays)?;
     Ok(cells)
 }
 
@@ -180,9 +137,9 @@ pub fn map_layout(alloc: Global, timed: &Timed, layout: &Layout) -> Result<Cells
         → IsSpaceFault timed.now f → f ≡ fault.Memory) }
     ensures refused { IfErr result (IsSpaceFault timed.now) }
 {
-    let stretches = stretches(alloc, timed, layout)?;
-    let cells = limited(alloc, timed, layout, stretches.as_slice())?;
-    Ok(cells)
+    let nodes = TimedNodes::new(alloc, timed)?;
+    let scheduled = ScheduledSystem::new(&nodes, layout);
+    mapped(alloc, &scheduled)
 }
 
 /// The array of a legal timed system (Rao, Kailath 1988): cells by node and coordinates, links by consumer, tap site and cycle,

@@ -2,7 +2,6 @@
 //! fewer than 2^32 items, so each size has 32 bits and no sum of them wraps.
 
 ghost use Rattle.std.specs.Prelude.{◌≡◌, ◌↔◌, ◌+◌, ◌^◌, ◌<◌, ◌≤◌, All, Any, IfOk, OnOk, IsTrue, length, map};
-ghost use Rattle.av_flat.specs.Legal.{IsLegal};
 ghost use Rattle.av_flat.specs.Nodes.{nodes};
 ghost use Rattle.av_flat.specs.Points.{has};
 ghost use Rattle.av_flat.specs.Trees.{view, view_system, view_variable};
@@ -10,13 +9,14 @@ ghost use Rattle.av_depend.specs.SetPoints.{IsPointOf};
 ghost use Rattle.av_space.specs.Quantities.{size, IsOperatorCount};
 ghost use Rattle.av_space.specs.inner.Apart.{AreOfNode};
 ghost use Rattle.av_space.specs.inner.Counting.{piece_sizes, IsCountOf, IsOnCell};
-ghost use Rattle.av_space.specs.Layouts.{IsLayout};
+ghost use Rattle.av_space.specs.inner.Scheduled.{system_of, placings_of, cells_of};
 
 use crate::apart::are_apart;
-use crate::layout::{Layout, Slot};
-use crate::node_places::variable_of;
+use crate::layout::Slot;
+use crate::scheduled::ScheduledSystem;
+use crate::timed_nodes::TimedNodes;
 use av_base::{List, Memory};
-use av_flat::{Piece, Timed, Tree, Var};
+use av_flat::{Piece, Tree, Var};
 use std::alloc::Global;
 
 // Puts the references, constants, operators, choices and picks of a tree into a list.
@@ -70,14 +70,12 @@ fn sizes_of(alloc: Global, var: &Var) -> Result<List<u32>, Memory>
 }
 
 // Those of all nodes.
-fn all_sizes(alloc: Global, timed: &Timed, layout: &Layout) -> Result<List<List<u32>>, Memory>
-    requires layout { IsLayout timed.now layout.now }
+fn all_sizes(alloc: Global, timed: &TimedNodes<'_>) -> Result<List<List<u32>>, Memory>
     ensures { IfOk result (λ sizes. sizes ≡ map piece_sizes (nodes (view_system timed.now.flat))) }
 {
-    let places = layout.places.as_slice();
     let mut sizes = List::new(alloc);
-    for node in 0..places.len() {
-        let var = variable_of(&timed.flat, places, node);
+    for node in 0..timed.len() {
+        let var = timed.variable(node);
         sizes.push(sizes_of(alloc, var)?)?;
     }
     Ok(sizes)
@@ -109,18 +107,16 @@ fn is_used(slots: &[Slot], piece: &Piece) -> bool
 }
 
 // Those of the pieces on a cell.
-fn cell_operators(timed: &Timed, layout: &Layout, sizes: &[List<u32>], cell: usize) -> u128
-    requires legal { IsLegal timed.now }
-    requires layout { IsLayout timed.now layout.now }
-    requires sizes { sizes.now ≡ map piece_sizes (nodes (view_system timed.now.flat)) }
-    requires cell { cell < length layout.now.cells }
-    ensures count { IsCountOf (view_system timed.now.flat) layout.now.placements layout.now.cells
-        (IsOnCell cell) result }
+fn cell_operators(scheduled: &ScheduledSystem<'_>, sizes: &[List<u32>], cell: usize) -> u128
+    requires sizes { sizes.now ≡ map piece_sizes (nodes (system_of scheduled.now)) }
+    requires cell { cell < length (cells_of scheduled.now) }
+    ensures count { IsCountOf (system_of scheduled.now)
+        (placings_of scheduled.now) (cells_of scheduled.now) (IsOnCell cell) result }
     ensures most { result ≤ 2 ^ 96 }
 {
-    let node = layout.cells.as_slice()[cell].node as usize;
-    let var = variable_of(&timed.flat, layout.places.as_slice(), node);
-    let slots = layout.slots.as_slice()[cell].as_slice();
+    let node = scheduled.cells()[cell].node as usize;
+    let var = scheduled.variable(node);
+    let slots = scheduled.slots()[cell].as_slice();
     let own = sizes[node].as_slice();
     let mut sum: u128 = 0;
     for (number, piece) in var.pieces.as_slice().iter().enumerate() {
@@ -132,16 +128,14 @@ fn cell_operators(timed: &Timed, layout: &Layout, sizes: &[List<u32>], cell: usi
 }
 
 /// The sizes of the trees of all pieces with a computation on a cell, cell by cell.
-pub(crate) fn operators(alloc: Global, timed: &Timed, layout: &Layout) -> Result<u128, Memory>
-    requires legal { IsLegal timed.now }
-    requires layout { IsLayout timed.now layout.now }
-    ensures { IfOk result
-        (IsOperatorCount (view_system timed.now.flat) layout.now.placements layout.now.cells) }
+pub(crate) fn operators(alloc: Global, scheduled: &ScheduledSystem<'_>) -> Result<u128, Memory>
+    ensures { IfOk result (IsOperatorCount
+        (system_of scheduled.now) (placings_of scheduled.now) (cells_of scheduled.now)) }
 {
-    let sizes = all_sizes(alloc, timed, layout)?;
+    let sizes = all_sizes(alloc, scheduled.timed())?;
     let mut sum: u128 = 0;
-    for cell in 0..layout.cells.as_slice().len() {
-        sum += cell_operators(timed, layout, sizes.as_slice(), cell);
+    for cell in 0..scheduled.cells().len() {
+        sum += cell_operators(scheduled, sizes.as_slice(), cell);
     }
     Ok(sum)
 }

@@ -12,6 +12,7 @@ use crate::array::Array;
 use crate::cells::{Cell, InPort};
 use crate::layout::Slot;
 use crate::linking::reading_at;
+use crate::scheduled::ScheduledSystem;
 use crate::spots::{Site, Spot};
 use crate::stretch::TapReading;
 use crate::tap::{Pipeline, TapSite, Way};
@@ -32,7 +33,7 @@ pub enum Origin {
 }
 
 // Whether the port comes before that of a reference, by its piece and its number there, on a cell.
-fn is_port_before(cells: &[Cell], port: &InPort, cell: usize, piece: usize, site: usize) -> bool
+fn is_port_before(cells: &[Cell], port: &InPort, cell: usize, piece: usize, site: u32) -> bool
     requires first { port.now.cell < length cells.now }
     requires second { cell < length cells.now }
     ensures { IsTrue result
@@ -47,15 +48,14 @@ fn is_port_before(cells: &[Cell], port: &InPort, cell: usize, piece: usize, site
     if own_piece != piece {
         return own_piece < piece;
     }
-    let own_site = port.site as usize;
-    if own_site != site {
-        return own_site < site;
+    if port.site != site {
+        return port.site < site;
     }
     (port.cell as usize) < cell
 }
 
 // The number of the port of a reference on a cell.
-fn port_at(cells: &[Cell], ports: &[InPort], cell: usize, piece: usize, site: usize) -> usize
+fn port_at(cells: &[Cell], ports: &[InPort], cell: usize, piece: usize, site: u32) -> usize
     requires cells { All (λ p. p.cell < length cells.now) ports.now }
     requires order { AllPairs (IsPortBefore cells.now) ports.now }
     requires cell { cell < length cells.now }
@@ -100,7 +100,8 @@ impl Array<'_> {
         ensures { MatchOption result (IsReadThere self.now spot.now (tap_of tap.now) slot.now → ⊥)
             (λ r. IsReadOver self.now spot.now (tap_of tap.now) slot.now r.producer r.delay) }
     {
-        reading_at(self.timed, &self.layout, spot.node, tap, spot.piece, slot)
+        let scheduled = ScheduledSystem::new(&self.nodes, &self.layout);
+        reading_at(&scheduled, spot.node, tap, spot.piece, slot)
     }
 
     // The input port of a reference that is read at a computation.
@@ -122,7 +123,7 @@ impl Array<'_> {
             self.cells.inputs.as_slice(),
             spot.cell,
             spot.number,
-            place.site as usize,
+            place.site,
         )
     }
 

@@ -2,13 +2,13 @@
 
 ghost use Rattle.std.specs.Prelude.{◌≡◌, ◌≢◌, ◌<◌, pos, length, Any, IfOk};
 ghost use Rattle.av_affine.specs.Numbers.{AtMost};
-ghost use Rattle.av_flat.specs.Legal.{IsLegal};
 ghost use Rattle.av_space.specs.Coordinates.{AreSpaceRows, IsPlacing, ArePlacings};
 
 use crate::placement::Placement;
+use crate::timed_nodes::TimedNodes;
 use av_affine::{complete, is_inverse};
 use av_base::{List, Memory, Point};
-use av_flat::{Time, Timed};
+use av_flat::Time;
 use std::alloc::Global;
 
 // The rows below the first one of the matrix that completes the linear part's primitive vector.
@@ -52,12 +52,11 @@ fn placement_of(alloc: Global, time: &Time) -> Result<Placement, Memory>
 }
 
 /// The placements of all nodes, in order.
-pub(crate) fn placements(alloc: Global, timed: &Timed) -> Result<List<Placement>, Memory>
-    requires { IsLegal timed.now }
+pub(crate) fn placements(alloc: Global, timed: &TimedNodes<'_>) -> Result<List<Placement>, Memory>
     ensures { IfOk result (ArePlacings timed.now.times) }
 {
     let mut list = List::new(alloc);
-    for time in timed.times.as_slice() {
+    for time in timed.times() {
         list.push(placement_of(alloc, time)?)?;
     }
     Ok(list)

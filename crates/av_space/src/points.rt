@@ -1,19 +1,17 @@
 //! All points of domains.
 
-ghost use Rattle.std.specs.Prelude.{◌≡◌, ◌≤◌, ◌<◌, length, All, IfOk};
+ghost use Rattle.std.specs.Prelude.{◌≤◌, ◌<◌, length, All, IfOk};
 ghost use Rattle.av_affine.specs.Forms.{IsWithinLimits};
 ghost use Rattle.av_flat.specs.Sets.{IsBounded};
-ghost use Rattle.av_flat.specs.Legal.{IsLegal};
 ghost use Rattle.av_flat.specs.Trees.{view_system};
 ghost use Rattle.av_depend.specs.AllPoints.{AreAllPoints};
-ghost use Rattle.av_flat.specs.Nodes.{places_of};
+ghost use Rattle.av_flat.specs.Nodes.{nodes};
 ghost use Rattle.av_space.specs.inner.Laying.{AreNodePoints};
 
-use crate::node_places::variable_of;
+use crate::timed_nodes::TimedNodes;
 use av_base::{List, Memory, Point};
 use av_depend::all_points;
 use av_elim::box_of;
-use av_flat::Timed;
 use av_poly::Poly;
 use std::alloc::Global;
 
@@ -33,15 +31,11 @@ pub(crate) fn points_of(alloc: Global, domain: &Poly) -> Result<List<Point>, Mem
 /// The points of a node, ascending.
 pub(crate) fn node_points(
     alloc: Global,
-    timed: &Timed,
-    places: &[usize],
+    timed: &TimedNodes<'_>,
     node: usize,
 ) -> Result<List<Point>, Memory>
-    requires legal { IsLegal timed.now }
-    requires places { places.now ≡ places_of (view_system timed.now.flat) }
-    requires within { node < length places.now }
+    requires { node < length (nodes (view_system timed.now.flat)) }
     ensures { IfOk result (AreNodePoints (view_system timed.now.flat) node) }
 {
-    let var = variable_of(&timed.flat, places, node);
-    points_of(alloc, &var.domain)
+    points_of(alloc, &timed.variable(node).domain)
 }

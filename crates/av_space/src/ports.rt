@@ -3,27 +3,27 @@
 
 ghost use Rattle.std.specs.Prelude.{ℕ, ◌≡◌, ◌<◌, ◌≤◌, ◌+◌, ◌++◌, ◌^◌, List as Items, All, AllPairs, IfOk, OnOk, Some, slice_get, length, filter};
 ghost use Rattle.av_flat.specs.Broadcasts.{references};
-ghost use Rattle.av_flat.specs.Legal.{IsLegal};
+ghost use Rattle.av_flat.specs.Nodes.{nodes};
 ghost use Rattle.av_flat.specs.Points.{has};
-ghost use Rattle.av_flat.specs.Trees.{reference, view, view_system};
+ghost use Rattle.av_flat.specs.Trees.{reference, view};
 ghost use Rattle.av_depend.specs.SetPoints.{IsPointOf};
 ghost use Rattle.av_space.specs.declared.layout.Slot.{Slot as SlotSeen};
 ghost use Rattle.av_space.specs.Listings.{input_name, AreInLines};
 ghost use Rattle.av_space.specs.Ports.{ArePorts};
-ghost use Rattle.av_space.specs.Quantities.{IsOperatorCount};
 ghost use Rattle.av_space.specs.Occupancy.{IsCellBefore};
 ghost use Rattle.av_space.specs.inner.Feeding.{is_entered, lines_at, with_port, IsReadable, IsFirstOf};
-ghost use Rattle.av_space.specs.inner.NodePieces.{AreOfPiece, AreOwnSlots, IsNodePiece, IsPart, IsInputSite, ArePortsAt, ArePortsOf, IsSmallNode};
-ghost use Rattle.av_space.specs.Layouts.{IsLayout};
+ghost use Rattle.av_space.specs.inner.NodePieces.{AreOfPiece, AreOwnSlots, IsNodePiece, IsPart, IsInputSite, ArePortsAt, ArePortsOf};
+ghost use Rattle.av_space.specs.inner.Scheduled.{system_of, helpers_of, placings_of, cells_of};
 
 use crate::apart::slots_in;
 use crate::cells::{Cell, InPort};
 use crate::input_site::{InputSite, direction_of};
-use crate::layout::{Layout, Slot};
-use crate::node_places::variable_of;
+use crate::layout::Slot;
+use crate::linking::piece_at;
+use crate::scheduled::ScheduledSystem;
 use av_affine::Map;
 use av_base::{List, Memory, Name};
-use av_flat::{Piece, Timed, tree_references};
+use av_flat::{Piece, tree_references};
 use av_net::Entry;
 use std::alloc::Global;
 
@@ -36,12 +36,11 @@ pub(crate) struct Ports {
 
 // A piece of a node, and the cells of the node.
 #[derive(Drop)]
-struct NodePiece<'a> {
-    timed: &'a Timed,
-    layout: &'a Layout,
+struct NodePiece<'s, 'a> {
+    scheduled: &'s ScheduledSystem<'a>,
     node: usize,
     piece: &'a Piece,
-    number: usize,
+    number: u32,
     first: usize,
     last: usize,
     /// Of each of the cells the computations that are points of the piece.
@@ -113,8 +112,9 @@ fn own_slots<'s>(at: &'s NodePiece, cell: usize) -> &'s [Slot]
     requires at { IsNodePiece at.now }
     requires low { at.now.first ≤ cell }
     requires high { cell < at.now.last }
-    ensures { (slots : Items SlotSeen) → slice_get at.now.layout.now.slots cell ≡ Some slots
-        → result.now ≡ filter (λ t. has at.now.piece.now.domain t.point) slots }
+    ensures { (slots : Items SlotSeen)
+        → slice_get at.now.scheduled.now.layout.slots cell ≡ Some slots → result.now
+        ≡ filter (λ t. has at.now.piece.now.domain t.point) slots }
 {
     let own = at.own.as_slice();
     let place = cell - at.first;
@@ -125,21 +125,20 @@ fn own_slots<'s>(at: &'s NodePiece, cell: usize) -> &'s [Slot]
 fn add_site(
     alloc: Global,
     at: &NodePiece,
-    number: usize,
+    number: u32,
     site: &InputSite,
     ports: &mut Ports,
 ) -> Result<(), Memory>
     requires at { IsNodePiece at.now }
     requires site { IsInputSite at.now number site.now }
-    requires few { number < 2 ^ 32 }
     requires old { ArePortsAt at.now number at.now.first ports.old }
     ensures { OnOk result (ArePortsAt at.now number at.now.last ports.new) }
 {
     for cell in at.first..at.last {
         let port = InPort {
             cell: cell as u32,
-            piece: at.number as u32,
-            site: number as u32,
+            piece: at.number,
+            site: number,
         };
         let slots = own_slots(at, cell);
         add_port(alloc, site, port, slots, ports)?;
@@ -151,7 +150,7 @@ fn add_site(
 fn add_reference(
     alloc: Global,
     at: &NodePiece,
-    number: usize,
+    number: u32,
     var: u32,
     map: &Map,
     ports: &mut Ports,
@@ -161,12 +160,14 @@ fn add_reference(
     requires old { ArePortsAt at.now number at.now.first ports.old }
     ensures { OnOk result (ArePortsAt at.now (number + 1) at.now.first ports.new) }
 {
-    let input = &at.timed.flat.vars.as_slice()[var as usize];
+    let nodes = at.scheduled.timed();
+    let timed = nodes.system();
+    let input = &timed.flat.vars.as_slice()[var as usize];
     if input.kind.is_computed() {
         return Ok(());
     }
-    let place = at.layout.places.as_slice()[at.node];
-    let helpers = at.timed.helpers.as_slice();
+    let place = nodes.place(at.node);
+    let helpers = timed.helpers.as_slice();
     let site = InputSite {
         domain: &at.piece.domain,
         direction: direction_of(helpers, place, at.number, number),
@@ -179,15 +180,22 @@ fn add_reference(
 // The ports of the references in the piece.
 fn add_piece(alloc: Global, at: &NodePiece, ports: &mut Ports) -> Result<(), Memory>
     requires at { IsNodePiece at.now }
-    requires part { IsPart at.now 0 (view at.now.piece.now.tree) }
     requires old { ArePortsAt at.now 0 at.now.first ports.old }
     ensures { OnOk result (ArePortsAt at.now
         (length (references (view at.now.piece.now.tree))) at.now.first ports.new) }
 {
     let piece = at.piece;
     let found = tree_references(alloc, &piece.tree)?;
-    for (number, reference) in found.as_slice().iter().enumerate() {
-        add_reference(alloc, at, number, reference.var, reference.map, ports)?;
+    for number in 0..found.len() {
+        let reference = &found.as_slice()[number];
+        add_reference(
+            alloc,
+            at,
+            number as u32,
+            reference.var,
+            reference.map,
+            ports,
+        )?;
     }
     Ok(())
 }
@@ -195,19 +203,19 @@ fn add_piece(alloc: Global, at: &NodePiece, ports: &mut Ports) -> Result<(), Mem
 // Of each of these cells of a node the computations that are points of a piece of the node.
 fn slots_of_piece(
     alloc: Global,
-    layout: &Layout,
+    rows: &[List<Slot>],
     piece: &Piece,
     first: usize,
     last: usize,
 ) -> Result<List<List<Slot>>, Memory>
-    requires slots { AreOfPiece layout.now.slots piece.now.domain first last }
+    requires slots { AreOfPiece rows.now piece.now.domain first last }
     requires ordered { first ≤ last }
-    requires within { last ≤ length layout.now.slots }
-    ensures { IfOk result (AreOwnSlots layout.now.slots piece.now.domain first last) }
+    requires within { last ≤ length rows.now }
+    ensures { IfOk result (AreOwnSlots rows.now piece.now.domain first last) }
 {
     let mut own = List::new(alloc);
     for cell in first..last {
-        let slots = layout.slots.as_slice()[cell].as_slice();
+        let slots = rows[cell].as_slice();
         let part = slots_in(alloc, slots, &piece.domain)?;
         own.push(part)?;
     }
@@ -217,32 +225,29 @@ fn slots_of_piece(
 // The ports of a node with these cells.
 fn add_node(
     alloc: Global,
-    timed: &Timed,
-    layout: &Layout,
+    scheduled: &ScheduledSystem<'_>,
     node: usize,
     first: usize,
     last: usize,
     ports: &mut Ports,
 ) -> Result<(), Memory>
-    requires legal { IsLegal timed.now }
-    requires layout { IsLayout timed.now layout.now }
-    requires small { IsSmallNode (view_system timed.now.flat) node }
-    requires first { IsFirstOf layout.now.cells node first }
-    requires last { IsFirstOf layout.now.cells (node + 1) last }
+    requires node { node < length (nodes (system_of scheduled.now)) }
+    requires first { IsFirstOf (cells_of scheduled.now) node first }
+    requires last { IsFirstOf (cells_of scheduled.now) (node + 1) last }
     requires ordered { first ≤ last }
-    requires within { last ≤ length layout.now.cells }
-    requires old { ArePortsOf timed.now layout.now node 0 first ports.old }
-    ensures { OnOk result (ArePortsOf timed.now layout.now (node + 1) 0 last ports.new) }
+    requires within { last ≤ length (cells_of scheduled.now) }
+    requires old { ArePortsOf scheduled.now node 0 first ports.old }
+    ensures { OnOk result (ArePortsOf scheduled.now (node + 1) 0 last ports.new) }
 {
-    let var = variable_of(&timed.flat, layout.places.as_slice(), node);
-    for (number, piece) in var.pieces.as_slice().iter().enumerate() {
-        let own = slots_of_piece(alloc, layout, piece, first, last)?;
+    let var = scheduled.variable(node);
+    for number in 0..var.pieces.len() {
+        let piece = piece_at(var, number);
+        let own = slots_of_piece(alloc, scheduled.slots(), piece, first, last)?;
         let at = NodePiece {
-            timed,
-            layout,
+            scheduled,
             node,
             piece,
-            number,
+            number: number as u32,
             first,
             last,
             own,
@@ -270,46 +275,41 @@ fn end_of(cells: &[Cell], node: usize, first: usize) -> usize
 }
 
 // Puts the ports of all nodes into the lists.
-fn add_nodes(alloc: Global, timed: &Timed, layout: &Layout, ports: &mut Ports) -> Result<(), Memory>
-    requires legal { IsLegal timed.now }
-    requires layout { IsLayout timed.now layout.now }
-    requires few { (m : ℕ)
-        × IsOperatorCount (view_system timed.now.flat) layout.now.placements layout.now.cells m
-        × (m ≤ 1048576) }
-    requires none { ArePortsOf timed.now layout.now 0 0 0 ports.old }
-    ensures ports { OnOk result (ArePorts (view_system timed.now.flat)
-        timed.now.helpers layout.now.placements layout.now.cells ports.new.inputs) }
-    ensures lines { OnOk result (AreInLines (view_system timed.now.flat)
-        timed.now.helpers layout.now.placements layout.now.cells ports.new.inputs ports.new.ins) }
+fn add_nodes(
+    alloc: Global,
+    scheduled: &ScheduledSystem<'_>,
+    ports: &mut Ports,
+) -> Result<(), Memory>
+    requires { ArePortsOf scheduled.now 0 0 0 ports.old }
+    ensures ports { OnOk result (ArePorts (system_of scheduled.now) (helpers_of scheduled.now)
+        (placings_of scheduled.now) (cells_of scheduled.now) ports.new.inputs) }
+    ensures lines { OnOk result (AreInLines (system_of scheduled.now) (helpers_of scheduled.now)
+        (placings_of scheduled.now) (cells_of scheduled.now) ports.new.inputs ports.new.ins) }
     ensures few { OnOk result (length ports.new.inputs ≤ 2 ^ 64) }
 {
-    let cells = layout.cells.as_slice();
+    let cells = scheduled.cells();
     let mut first = 0;
-    for node in 0..layout.places.as_slice().len() {
+    for node in 0..scheduled.node_count() {
         let last = end_of(cells, node, first);
-        add_node(alloc, timed, layout, node, first, last, ports)?;
+        add_node(alloc, scheduled, node, first, last, ports)?;
         first = last;
     }
     Ok(())
 }
 
 /// The input ports of the array of a legal system, in order, and the lines of the reads at them.
-pub(crate) fn input_ports(alloc: Global, timed: &Timed, layout: &Layout) -> Result<Ports, Memory>
-    requires legal { IsLegal timed.now }
-    requires layout { IsLayout timed.now layout.now }
-    requires few { (m : ℕ)
-        × IsOperatorCount (view_system timed.now.flat) layout.now.placements layout.now.cells m
-        × (m ≤ 1048576) }
-    ensures ports { IfOk result (λ p. ArePorts (view_system timed.now.flat)
-        timed.now.helpers layout.now.placements layout.now.cells p.inputs) }
-    ensures lines { IfOk result (λ p. AreInLines (view_system timed.now.flat)
-        timed.now.helpers layout.now.placements layout.now.cells p.inputs p.ins) }
+pub(crate) fn input_ports(alloc: Global, scheduled: &ScheduledSystem<'_>) -> Result<Ports, Memory>
+    ensures ports { IfOk result (λ p. ArePorts (system_of scheduled.now)
+        (helpers_of scheduled.now) (placings_of scheduled.now) (cells_of scheduled.now) p.inputs) }
+    ensures lines { IfOk result (λ p. AreInLines
+        (system_of scheduled.now) (helpers_of scheduled.now) (placings_of scheduled.now)
+        (cells_of scheduled.now) p.inputs p.ins) }
     ensures few { IfOk result (λ p. length p.inputs ≤ 2 ^ 64) }
 {
     let mut ports = Ports {
         inputs: List::new(alloc),
         ins: List::new(alloc),
     };
-    add_nodes(alloc, timed, layout, &mut ports)?;
+    add_nodes(alloc, scheduled, &mut ports)?;
     Ok(ports)
 }

@@ -6,14 +6,14 @@ ghost use Rattle.av_affine.specs.Numbers.{AtMost};
 ghost use Rattle.av_flat.specs.Legal.{IsLegal};
 ghost use Rattle.av_flat.specs.Trees.{view_system};
 ghost use Rattle.av_space.specs.Coordinates.{IsPlacing};
-ghost use Rattle.av_flat.specs.Nodes.{places_of};
+ghost use Rattle.av_flat.specs.Nodes.{nodes};
 ghost use Rattle.av_space.specs.inner.Laying.{HasFewCycles, IsTimely, IsRunEnd, AreRanked, rank_from, ranked_at};
 
 use crate::layout::Slot;
 use crate::placement::Placement;
 use crate::points::node_points;
+use crate::timed_nodes::TimedNodes;
 use av_base::{Memory, Point};
-use av_flat::Timed;
 use std::alloc::Global;
 
 /// A computation of a node, with the number that orders them by coordinates and then by cycle.
@@ -74,20 +74,18 @@ fn in_order(alloc: Global, placement: &Placement, points: &[Point]) -> Result<Ve
 /// The computations of a node by rank.
 pub(crate) fn node_ranked(
     alloc: Global,
-    timed: &Timed,
-    places: &[usize],
+    timed: &TimedNodes<'_>,
     node: usize,
     placement: &Placement,
 ) -> Result<Vec<Ranked>, Memory>
     requires legal { IsLegal timed.now }
-    requires places { places.now ≡ places_of (view_system timed.now.flat) }
-    requires within { node < length places.now }
+    requires within { node < length (nodes (view_system timed.now.flat)) }
     requires placing { IsPlacing placement.now }
     requires time { slice_get timed.now.times node ≡ Some placement.now.time }
     requires ends { HasFewCycles timed.now }
     ensures { IfOk result (λ v. AreRanked (view_system timed.now.flat) node placement.now v.items) }
 {
-    let points = node_points(alloc, timed, places, node)?;
+    let points = node_points(alloc, timed, node)?;
     in_order(alloc, placement, points.as_slice())
 }
 

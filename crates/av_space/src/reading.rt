@@ -10,15 +10,14 @@ ghost use Rattle.av_flat.specs.Values.{picked};
 ghost use Rattle.av_flat.specs.Helped.{before};
 ghost use Rattle.av_flat.specs.Nodes.{number_at};
 ghost use Rattle.av_space.specs.Taps.{IsReadBy, IsTapRead};
-ghost use Rattle.av_space.specs.Layouts.{IsLayout};
 ghost use Rattle.av_space.specs.inner.Sites.{tap_of, way_of};
 ghost use Rattle.av_space.specs.inner.Readings.{IsReadable, IsFineTap, IsSmallIn};
 
-use crate::layout::Layout;
 use crate::tap::{TapSite, Way};
+use crate::timed_nodes::TimedNodes;
 use arrayvec::ArrayVec;
 use av_base::Point;
-use av_flat::{Choice, Piece, Timed, Tree};
+use av_flat::{Choice, Piece, Tree};
 use av_poly::Poly;
 
 /// A point of a variable, by its place, that a reference or a pick reads.
@@ -111,18 +110,8 @@ fn place_read(tree: &Tree, point: &Point) -> Option<PlaceRead>
     }
 }
 
-// The number of the node at a place of the variables.
-fn number_of(timed: &Timed, layout: &Layout, place: u32) -> usize
-    requires layout { IsLayout timed.now layout.now }
-    requires place { place < length timed.now.flat.vars }
-    ensures { result ≡ number_at (view_system timed.now.flat) place }
-{
-    layout.numbers.as_slice()[place as usize]
-}
-
 // What a reference or a pick of a node reads at a point.
-fn node_read(timed: &Timed, layout: &Layout, tree: &Tree, point: &Point) -> Option<Read>
-    requires layout { IsLayout timed.now layout.now }
+fn node_read(timed: &TimedNodes<'_>, tree: &Tree, point: &Point) -> Option<Read>
     requires tree { IsReadable (length point.now) (length timed.now.flat.vars) (view tree.now) }
     requires small { AtMost 4095 point.now }
     ensures { MatchOption result ((place : ℕ) (y : PointSeen)
@@ -132,7 +121,7 @@ fn node_read(timed: &Timed, layout: &Layout, tree: &Tree, point: &Point) -> Opti
 {
     let read = place_read(tree, point)?;
     Some(Read {
-        node: number_of(timed, layout, read.place),
+        node: timed.number(read.place),
         point: read.point,
     })
 }
@@ -148,14 +137,12 @@ fn is_entry(set: &Poly, point: &Point, direction: &Point) -> bool
 
 /// What a tap site of a node reads at a point of its piece.
 pub(crate) fn read_at(
-    timed: &Timed,
-    layout: &Layout,
+    timed: &TimedNodes<'_>,
     node: usize,
     site: &TapSite<'_>,
     piece: &Piece,
     point: &Point,
 ) -> Option<Read>
-    requires layout { IsLayout timed.now layout.now }
     requires site { IsFineTap piece.now.domain.dim (length timed.now.flat.vars) (tap_of site.now) }
     requires point { IsSmallIn piece.now.domain point.now }
     ensures { MatchOption result ((k : ℕ) (y : PointSeen) → IsTapRead (view_system timed.now.flat)
@@ -164,10 +151,10 @@ pub(crate) fn read_at(
         (way_of site.now.way) (view_piece piece.now) point.now r.node r.point) }
 {
     match &site.way {
-        Way::Each => node_read(timed, layout, site.place.tree, point),
+        Way::Each => node_read(timed, site.place.tree, point),
         Way::Entries(direction) => {
             if is_entry(&piece.domain, point, direction) {
-                node_read(timed, layout, site.place.tree, point)
+                node_read(timed, site.place.tree, point)
             } else {
                 None
             }

@@ -2,32 +2,28 @@
 
 ghost use Rattle.std.specs.Prelude.{◌≡◌, ◌+◌, ◌<◌, ◌≤◌, AllPairs, IfOk, OnOk, length};
 ghost use Rattle.av_flat.specs.declared.flat.Kind.TheVariants.{Output};
-ghost use Rattle.av_flat.specs.Legal.{IsLegal};
 ghost use Rattle.av_flat.specs.Nodes.{IsComputation};
 ghost use Rattle.av_flat.specs.Signatures.{is_kind, is_shown};
-ghost use Rattle.av_flat.specs.Trees.{view_system};
 ghost use Rattle.av_space.specs.Listings.{IsWireOf, IsAtLine, AreAtLines};
 ghost use Rattle.av_space.specs.Ports.{output_cells};
-ghost use Rattle.av_space.specs.Layouts.{IsLayout};
+ghost use Rattle.av_space.specs.inner.Scheduled.{system_of, placings_of, cells_of};
 ghost use Rattle.av_space.specs.inner.Showing.{AreWires, IsShownNode, AreLinesBelow};
 
-use crate::layout::Layout;
 use crate::locate::locate;
-use crate::node_places::variable_of;
 use crate::points::node_points;
+use crate::scheduled::ScheduledSystem;
 use av_base::{List, Memory, Name, Point};
-use av_flat::{Kind, Timed, Var};
+use av_flat::{Kind, Var};
 use av_net::Entry;
 use std::alloc::Global;
 
 // A node whose points are shown, and the numbers of the cells of outputs.
 #[derive(Drop)]
-struct ShownNode<'a> {
-    timed: &'a Timed,
-    layout: &'a Layout,
-    outputs: &'a [u32],
+struct ShownNode<'s, 'a> {
+    scheduled: &'s ScheduledSystem<'a>,
+    outputs: &'s [u32],
     /// Of each cell.
-    wires: &'a [Name],
+    wires: &'s [Name],
     node: usize,
     var: &'a Var,
 }
@@ -55,18 +51,14 @@ fn is_shown(kind: Kind) -> bool
 /// The numbers of the cells of outputs, in order.
 pub(crate) fn output_cells(
     alloc: Global,
-    timed: &Timed,
-    layout: &Layout,
+    scheduled: &ScheduledSystem<'_>,
 ) -> Result<List<u32>, Memory>
-    requires legal { IsLegal timed.now }
-    requires layout { IsLayout timed.now layout.now }
     ensures { IfOk result (λ outputs.
-        outputs ≡ output_cells (view_system timed.now.flat) layout.now.cells) }
+        outputs ≡ output_cells (system_of scheduled.now) (cells_of scheduled.now)) }
 {
-    let places = layout.places.as_slice();
     let mut outputs = List::new(alloc);
-    for (number, cell) in layout.cells.as_slice().iter().enumerate() {
-        let var = variable_of(&timed.flat, places, cell.node as usize);
+    for (number, cell) in scheduled.cells().iter().enumerate() {
+        let var = scheduled.variable(cell.node as usize);
         if is_output(var.kind) {
             outputs.push(number as u32)?;
         }
@@ -99,11 +91,11 @@ fn wires_of(alloc: Global, outputs: &[u32], count: usize) -> Result<List<Name>, 
     Ok(wires)
 }
 
-impl ShownNode<'_> {
+impl ShownNode<'_, '_> {
     // The wire of a cell.
     fn wire(&self, alloc: Global, cell: u32) -> Result<Name, Memory>
         requires node { IsShownNode self.now }
-        requires cell { cell < length self.now.layout.now.cells }
+        requires cell { cell < length (cells_of self.now.scheduled.now) }
         ensures { IfOk result (IsWireOf self.now.outputs.now cell) }
     {
         let wires = self.wires;
@@ -113,13 +105,14 @@ impl ShownNode<'_> {
     // The line of a point of the node.
     fn line(&self, alloc: Global, z: &Point) -> Result<Entry, Memory>
         requires node { IsShownNode self.now }
-        requires computation { IsComputation (view_system self.now.timed.now.flat)
-            self.now.node z.now }
-        ensures { IfOk result (λ line. (line.point ≡ z.now) × IsAtLine (view_system
-            self.now.timed.now.flat) self.now.layout.now.placements self.now.layout.now.cells
-            self.now.outputs.now (record { node = self.now.node; entry = line })) }
+        requires computation { IsComputation
+            (system_of self.now.scheduled.now) self.now.node z.now }
+        ensures { IfOk result (λ line. (line.point ≡ z.now) × IsAtLine
+            (system_of self.now.scheduled.now) (placings_of self.now.scheduled.now)
+            (cells_of self.now.scheduled.now) self.now.outputs.now
+            (record { node = self.now.node; entry = line })) }
     {
-        let located = locate(self.timed, self.layout, self.node, z);
+        let located = locate(self.scheduled, self.node, z);
         Ok(Entry {
             variable: Name::new(alloc, self.var.name.as_str())?,
             point: Point::from_slice(z.as_slice()),
@@ -132,13 +125,12 @@ impl ShownNode<'_> {
 // Appends the lines of a node to those of earlier nodes.
 fn add_lines(alloc: Global, shown: &ShownNode, lines: &mut List<Entry>) -> Result<(), Memory>
     requires node { IsShownNode shown.now }
-    requires old { AreLinesBelow shown.now.timed.now
-        shown.now.layout.now shown.now.outputs.now shown.now.node lines.old }
-    ensures { OnOk result (AreLinesBelow shown.now.timed.now
-        shown.now.layout.now shown.now.outputs.now (shown.now.node + 1) lines.new) }
+    requires old { AreLinesBelow
+        shown.now.scheduled.now shown.now.outputs.now shown.now.node lines.old }
+    ensures { OnOk result (AreLinesBelow
+        shown.now.scheduled.now shown.now.outputs.now (shown.now.node + 1) lines.new) }
 {
-    let places = shown.layout.places.as_slice();
-    let points = node_points(alloc, shown.timed, places, shown.node)?;
+    let points = node_points(alloc, shown.scheduled.timed(), shown.node)?;
     for z in points.as_slice() {
         lines.push(shown.line(alloc, z)?)?;
     }
@@ -148,29 +140,25 @@ fn add_lines(alloc: Global, shown: &ShownNode, lines: &mut List<Entry>) -> Resul
 /// Where the points of outputs and locals are shown, by node and point.
 pub(crate) fn at_lines(
     alloc: Global,
-    timed: &Timed,
-    layout: &Layout,
+    scheduled: &ScheduledSystem<'_>,
     outputs: &[u32],
 ) -> Result<List<Entry>, Memory>
-    requires legal { IsLegal timed.now }
-    requires layout { IsLayout timed.now layout.now }
-    requires outputs { outputs.now ≡ output_cells (view_system timed.now.flat) layout.now.cells }
-    ensures { IfOk result (AreAtLines
-        (view_system timed.now.flat) layout.now.placements layout.now.cells outputs.now) }
+    requires { outputs.now
+        ≡ output_cells (system_of scheduled.now) (cells_of scheduled.now) }
+    ensures { IfOk result (AreAtLines (system_of scheduled.now)
+        (placings_of scheduled.now) (cells_of scheduled.now) outputs.now) }
 {
-    let places = layout.places.as_slice();
-    let cells = layout.cells.as_slice();
+    let cells = scheduled.cells();
     let names = wires_of(alloc, outputs, cells.len())?;
     let wires = names.as_slice();
     let mut lines = List::new(alloc);
-    for node in 0..places.len() {
-        let var = variable_of(&timed.flat, places, node);
+    for node in 0..scheduled.node_count() {
+        let var = scheduled.variable(node);
         if !is_shown(var.kind) {
             continue;
         }
         let shown = ShownNode {
-            timed,
-            layout,
+            scheduled,
             outputs,
             wires,
             node,

@@ -9,7 +9,6 @@ use crate::apart::slots_in;
 use crate::array::Array;
 use crate::layout::Slot;
 use crate::linking::piece_at;
-use crate::node_places::variable_of;
 use crate::tap::Pipeline;
 use crate::tapping::{helper_at, same};
 use av_base::{List, Memory};
@@ -60,7 +59,7 @@ fn pipeline(helpers: &[Helper], own: usize, place: &ReadingPlace<'_>) -> Option<
     ensures { result ≡ pipeline_by helpers.now own (place_of place.now) (view place.now.tree) }
 {
     match place.tree {
-        Tree::Ref { .. } => helper_at(helpers, own, place.piece, place.site as usize),
+        Tree::Ref { .. } => helper_at(helpers, own, place.piece, place.site),
         _ => None,
     }
 }
@@ -77,7 +76,7 @@ impl<'a> Array<'a> {
         ensures { IsVariableOn self.now cell (view_variable result.now) }
     {
         let node = self.layout.cells.as_slice()[cell].node as usize;
-        variable_of(&self.timed.flat, self.layout.places.as_slice(), node)
+        self.nodes.variable(node)
     }
 
     // The piece with this number on a cell.
@@ -88,7 +87,7 @@ impl<'a> Array<'a> {
         ensures { IfOk result (λ at. (at.cell ≡ cell) × (at.number ≡ number) × IsSpot self.now at) }
     {
         let node = self.layout.cells.as_slice()[cell].node as usize;
-        let place = self.layout.places.as_slice()[node];
+        let place = self.nodes.place(node);
         let var = self.variable(cell);
         let piece = piece_at(var, number);
         let slots = slots_in(alloc, self.slots(cell), &piece.domain)?;

@@ -13,11 +13,11 @@ use av_flat::{Helper, ReadingPlace, Timed, Tree, Var, piece_places};
 use std::alloc::Global;
 
 // Whether the helper is of this reference.
-fn is_of(helper: &Helper, place: usize, piece: usize, site: usize) -> bool
+fn is_of(helper: &Helper, place: usize, piece: usize, site: u32) -> bool
     ensures { result ≡ nat_eq
         helper.now.var place && nat_eq helper.now.piece piece && nat_eq helper.now.site site }
 {
-    helper.var as usize == place && helper.piece as usize == piece && helper.site as usize == site
+    helper.var as usize == place && helper.piece as usize == piece && helper.site == site
 }
 
 /// The first helper of a reference.
@@ -25,7 +25,7 @@ pub(crate) fn helper_at(
     helpers: &[Helper],
     place: usize,
     piece: usize,
-    site: usize,
+    site: u32,
 ) -> Option<Pipeline>
     ensures { result ≡ helper_at helpers.now place piece site }
 {
@@ -95,7 +95,7 @@ fn add_taps<'a>(
     match place.tree {
         Tree::Ref { var, .. } => {
             let helpers = timed.helpers.as_slice();
-            let pipeline = helper_at(helpers, own, place.piece, place.site as usize);
+            let pipeline = helper_at(helpers, own, place.piece, place.site);
             add_taps_by(is_computed_at(&timed.flat, *var), pipeline, place, sites)
         }
         Tree::Pick { var, .. } => {

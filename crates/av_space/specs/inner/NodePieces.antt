@@ -1,29 +1,26 @@
 -- Pieces of nodes with the cells of the node, references to inputs in them, and the ports that are found up to these.
-use Rattle.std.specs.Prelude.{◌≡◌, ℕ, ◌+◌, ◌<◌, ◌≤◌, ◌^◌, IsTrue, List, Some, slice_get, length, filter}
-use Rattle.av_flat.specs.declared.timed.Timed.{Timed}
-use Rattle.av_flat.specs.Trees.{Tree, Piece, Variable, FlatSystem, view_piece, view_variable, view_system}
+use Rattle.std.specs.Prelude.{◌≡◌, ℕ, ◌+◌, ◌<◌, ◌≤◌, IsTrue, List, Some, slice_get, length, filter}
+use Rattle.av_flat.specs.Trees.{Tree, Variable, view_piece, view_variable}
 use Rattle.av_flat.specs.Broadcasts.{references}
 use Rattle.av_flat.specs.Nodes.{nodes, node_place}
 use Rattle.av_flat.specs.Points.{has}
 use Rattle.av_flat.specs.Signatures.{signatures, is_input}
 use Rattle.av_flat.specs.WellFormed.{EachPart, Fits, HasSmallRows}
-use Rattle.av_flat.specs.Legal.{IsLegal}
 use Rattle.av_poly.specs.Points.{Set}
 use Rattle.av_space.specs.declared.input_site.InputSite.{InputSite}
-use Rattle.av_space.specs.declared.layout.Layout.{Layout}
 use Rattle.av_space.specs.declared.layout.Slot.{Slot}
 use Rattle.av_space.specs.declared.ports.NodePiece.{NodePiece}
 use Rattle.av_space.specs.declared.ports.Ports.{Ports}
 use Rattle.av_space.specs.Taps.{helper_at}
 use Rattle.av_space.specs.inner.Apart.{AreOfNode}
+use Rattle.av_space.specs.inner.Scheduled.{Scheduled, IsScheduled, system_of, helpers_of, placings_of, cells_of}
 use Rattle.av_space.specs.inner.Feeding.{direction_of, IsReadable, IsFirstOf, StandAt, ArePortsTo}
-use Rattle.av_space.specs.Layouts.{IsLayout}
 
-abbrev pub ArePortsOf : Timed → Layout → ℕ → ℕ → ℕ → Ports → Type 0
-ArePortsOf t l n k p ports = ArePortsTo (view_system t.flat) t.helpers l.placements l.cells n k 0 p ports
+abbrev pub ArePortsOf : Scheduled → ℕ → ℕ → ℕ → Ports → Type 0
+ArePortsOf of n k p ports = ArePortsTo (system_of of) (helpers_of of) (placings_of of) (cells_of of) n k 0 p ports
 
 abbrev pub ArePortsAt : NodePiece → ℕ → ℕ → Ports → Type 0
-ArePortsAt at j p ports = ArePortsTo (view_system at.timed.now.flat) at.timed.now.helpers at.layout.now.placements at.layout.now.cells at.node at.number j p ports
+ArePortsAt at j p ports = ArePortsTo (system_of at.scheduled.now) (helpers_of at.scheduled.now) (placings_of at.scheduled.now) (cells_of at.scheduled.now) at.node at.number j p ports
 
 -- the computations on these cells are of the node of a piece with this set
 abbrev pub AreOfPiece : List (List Slot) → Set → ℕ → ℕ → Type 0
@@ -35,38 +32,28 @@ pub record AreOwnSlots (rows : List (List Slot)) (set : Set) (first last : ℕ) 
   pub each : (k : ℕ) (slots some : List Slot) → slice_get rows (first + k) ≡ Some slots → slice_get own k ≡ Some some → some ≡ filter (λ t. has set t.point) slots
 
 pub record IsNodePiece (at : NodePiece) : Type 0 where
-  pub legal : IsLegal at.timed.now
-  pub layout : IsLayout at.timed.now at.layout.now
+  pub scheduled : IsScheduled at.scheduled.now
   pub variable : Variable
-  pub is_variable : slice_get (nodes (view_system at.timed.now.flat)) at.node ≡ Some variable
+  pub is_variable : slice_get (nodes (system_of at.scheduled.now)) at.node ≡ Some variable
   pub is_piece : slice_get variable.pieces at.number ≡ Some (view_piece at.piece.now)
-  pub few : at.number < 2 ^ 32
-  pub first : IsFirstOf at.layout.now.cells at.node at.first
-  pub last : IsFirstOf at.layout.now.cells (at.node + 1) at.last
+  pub first : IsFirstOf (cells_of at.scheduled.now) at.node at.first
+  pub last : IsFirstOf (cells_of at.scheduled.now) (at.node + 1) at.last
   pub ordered : at.first ≤ at.last
-  pub within : at.last ≤ length at.layout.now.cells
-  pub own : AreOwnSlots at.layout.now.slots at.piece.now.domain at.first at.last at.own
+  pub within : at.last ≤ length (cells_of at.scheduled.now)
+  pub own : AreOwnSlots at.scheduled.now.layout.slots at.piece.now.domain at.first at.last at.own
 
 -- a part of the piece, whose references have the numbers from j on
 pub record IsPart (at : NodePiece) (j : ℕ) (t : Tree) : Type 0 where
   pub stand : StandAt j (references t) (references (view_piece at.piece.now).tree)
-  pub fits : Fits (signatures (view_system at.timed.now.flat)) at.piece.now.domain.dim t
+  pub fits : Fits (signatures (system_of at.scheduled.now)) at.piece.now.domain.dim t
   pub rows : EachPart HasSmallRows t
-  pub few : j + length (references t) < 2 ^ 32
 
 -- the reference with this number in the piece
 pub record IsInputSite (at : NodePiece) (j : ℕ) (site : InputSite) : Type 0 where
   pub domain : site.domain.now ≡ at.piece.now.domain
-  pub direction : site.direction ≡ direction_of (helper_at at.timed.now.helpers (node_place (view_system at.timed.now.flat) at.node) at.number j)
+  pub direction : site.direction ≡ direction_of (helper_at (helpers_of at.scheduled.now) (node_place (system_of at.scheduled.now) at.node) at.number j)
   pub place : ℕ
   pub is_reference : slice_get (references (view_piece at.piece.now).tree) j ≡ Some (record { place = place; map = site.map.now })
-  pub is_read : slice_get (view_system at.timed.now.flat).variables place ≡ Some (view_variable site.input.now)
+  pub is_read : slice_get (system_of at.scheduled.now).variables place ≡ Some (view_variable site.input.now)
   pub kind : IsTrue (is_input site.input.now.kind)
   pub readable : IsReadable site.domain.now site.direction site.map.now
-
--- numbers of pieces and references have 32 bits
-pub record IsSmallNode (s : FlatSystem) (n : ℕ) : Type 0 where
-  pub variable : Variable
-  pub is_variable : slice_get (nodes s) n ≡ Some variable
-  pub few : length variable.pieces < 2 ^ 32
-  pub short : (k : ℕ) (piece : Piece) → slice_get variable.pieces k ≡ Some piece → length (references piece.tree) < 2 ^ 32

@@ -1,32 +1,27 @@
 -- The quantities of a laid out array, each within its limit, or the first that is not.
 use Rattle.std.specs.Prelude.{ℕ, ◌≤◌, ◌^◌, List, length}
 use Rattle.av_flat.specs.declared.timed.Timed.{Timed}
-use Rattle.av_flat.specs.Trees.{view_system}
 use Rattle.av_space.specs.declared.cells.Link.{Link}
-use Rattle.av_space.specs.declared.layout.Layout.{Layout}
 use Rattle.av_space.specs.Links.{AreLinks, delay_count}
 use Rattle.av_space.specs.declared.cells.Cells.{Cells}
 use Rattle.av_space.specs.Arrays.{IsArrayOf}
 use Rattle.av_space.specs.Quantities.{IsOperatorCount}
+use Rattle.av_space.specs.inner.Scheduled.{Scheduled, system_of, helpers_of, placings_of, cells_of}
 
--- at most so many operators
-abbrev pub HasOperators : Timed → Layout → ℕ → Type 0
-HasOperators t l limit = (m : ℕ) × IsOperatorCount (view_system t.flat) l.placements l.cells m × (m ≤ limit)
+abbrev pub LinksOf : Scheduled → List Link → Type 0
+LinksOf at links = AreLinks (system_of at) (helpers_of at) (placings_of at) (cells_of at) links
 
-abbrev pub LinksOf : Timed → Layout → List Link → Type 0
-LinksOf t l links = AreLinks (view_system t.flat) t.helpers l.placements l.cells links
-
-abbrev pub delays_of : Timed → Layout → List Link → ℕ
-delays_of t l links = delay_count (view_system t.flat) t.helpers l.cells links
+abbrev pub delays_of : Scheduled → List Link → ℕ
+delays_of at links = delay_count (system_of at) (helpers_of at) (cells_of at) links
 
 -- registers of delay lines, links and operators are within their limits
-pub record AreWithin (t : Timed) (l : Layout) (links : List Link) : Type 0 where
-  pub delays : delays_of t l links ≤ 32768
+pub record AreWithin (at : Scheduled) (links : List Link) : Type 0 where
+  pub delays : delays_of at links ≤ 32768
   pub links_are : length links ≤ 16384
-  pub operators : HasOperators t l 1048576
+  pub operators : (m : ℕ) × IsOperatorCount (system_of at) (placings_of at) (cells_of at) m × (m ≤ 1048576)
 
--- the array on these cells, with these links
-pub record IsLaidOut (t : Timed) (l : Layout) (links : List Link) (a : Cells) : Type 0 where
+-- the array of the system, with few enough ports and cells
+pub record IsLaidOut (t : Timed) (a : Cells) : Type 0 where
   pub array : IsArrayOf t a
   pub few_inputs : length a.inputs ≤ 2 ^ 64
   pub few_outputs : length a.outputs ≤ 2 ^ 64

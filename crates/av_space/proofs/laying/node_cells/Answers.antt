@@ -1,7 +1,6 @@
 use Rattle.std.proofs.Common.{arith, sym, subst}
 use Rattle.av_flat.specs.Trees.{view_system}
 use Rattle.av_space.specs.inner.Laying.{AreRanked}
-use Rattle.av_flat.proofs.NodeNumbers.{places_number}
 use Rattle.av_space.proofs.Laid.{counted_none, counted_more, counted_all, ranked_some}
 use Rattle.av_space.proofs.laying.node_cells.Goals as goal
 
@@ -30,6 +29,5 @@ returns-clause-some c =
     let t = c.args.timed.now in
     let p = c.args.placement.now in
     let are = subst (AreRanked (view_system t.flat) c.args.node p) (sym c.as_slice-ranked.ensures.value) c.in_ok-all.ensures in
-    let n = places_number (view_system t.flat) c.args.places.now c.requires.places in
-    let l = ranked_some t c.args.node p c.as_slice-ranked.result.now c.requires.legal (omega (arith, n, c.requires.within)) are in
+    let l = ranked_some t c.args.node p c.as_slice-ranked.result.now c.requires.legal c.requires.within are in
     c.loop-start.invariant.some (omega (arith, l, c.loop-start-test.false))

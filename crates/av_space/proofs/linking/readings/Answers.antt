@@ -23,9 +23,9 @@ reading_at-requires-clause-site c =
 
 pub loop-slot-preserved : goal.loop-slot-preserved
 loop-slot-preserved c =
-    let s = view_system c.args.timed.now.flat in
-    let placings = c.args.layout.now.placements in
-    let cells = c.args.layout.now.cells in
+    let s = view_system c.args.scheduled.now.timed.flat in
+    let placings = c.args.scheduled.now.layout.placements in
+    let cells = c.args.scheduled.now.layout.cells in
     let t = tap_of c.args.site.now in
     let piece = view_piece c.args.piece.now in
     let slots = c.args.slots.now in

@@ -20,7 +20,6 @@ use Rattle.av_space.proofs.OffCells.{are_of_node}
 use Rattle.av_space.proofs.ByPlace.{read_at}
 use Rattle.av_space.proofs.TreeSizes.{made_size, size_at, own_sizes, row_within}
 use Rattle.av_space.proofs.OperatorCounts.{count_none, one_more, not_more, whole_cell}
-use Rattle.av_flat.proofs.NodeNumbers.{node_in_places}
 use Rattle.av_space.proofs.OnCells.{IsCellOf, node_within, cell_of, use_of, slot_of_use}
 use Rattle.av_space.proofs.operators.cell_operators.Goals as goal
 use Rattle.av_space.proofs.operators.cell_operators.Goals.{then-is_used, else-is_used}
@@ -57,71 +56,71 @@ size_here s v sizes row own n j piece same is from at there =
     ap (λ (ns : List ℕ). get_or ns j 0) (from ∙ own_sizes s sizes n row (view_variable v) same lt is at) ∙ size_at v j piece there
 
 pub bounds-sizes-node : goal.bounds-sizes-node
-bounds-sizes-node c = row_within (view_system c.args.timed.now.flat) c.args.sizes.now (get_or c.as_slice.result.now c.args.cell c.index-as_slice-cell.result).node (view_variable c.variable_of-var.result.now) c.requires.sizes c.variable_of-var.ensures
+bounds-sizes-node c = row_within (view_system c.args.scheduled.now.timed.flat) c.args.sizes.now (get_or c.cells.result.now c.args.cell c.index-cells-cell.result).node (view_variable c.variable-var.result.now) c.requires.sizes c.variable-var.ensures
 
 pub bounds-own-number : goal.bounds-own-number
 bounds-own-number c =
-    let s = view_system c.args.timed.now.flat in
-    let v = c.variable_of-var.result.now in
-    let n = (get_or c.as_slice.result.now c.args.cell c.index-as_slice-cell.result).node in
+    let s = view_system c.args.scheduled.now.timed.flat in
+    let v = c.variable-var.result.now in
+    let n = (get_or c.cells.result.now c.args.cell c.index-cells-cell.result).node in
     let row = c.index-sizes-node.result in
-    let lt = row_within s c.args.sizes.now n (view_variable v) c.requires.sizes c.variable_of-var.ensures in
-    let own = ap (λ (ns : List ℕ). length ns) (c.as_slice-own.ensures ∙ own_sizes s c.args.sizes.now n row (view_variable v) c.requires.sizes lt c.index-sizes-node.is c.variable_of-var.ensures) in
+    let lt = row_within s c.args.sizes.now n (view_variable v) c.requires.sizes c.variable-var.ensures in
+    let own = ap (λ (ns : List ℕ). length ns) (c.as_slice-own.ensures ∙ own_sizes s c.args.sizes.now n row (view_variable v) c.requires.sizes lt c.index-sizes-node.is c.variable-var.ensures) in
     let many = length-map (map view_piece v.pieces) (λ (p : Piece). size p.tree) in
     let made : length (map view_piece v.pieces) ≡ length v.pieces = length-map v.pieces view_piece in
     let items = ap (λ (ps : List PieceMade). length ps) c.as_slice-piece-items.ensures in
     let lp : c.loop-number.number < length c.as_slice-piece-items.result.now = search rules in
     omega (arith, own, many, made, items, lp)
 
-pub variable_of-var-requires-clause-within : goal.variable_of-var-requires-clause-within
-variable_of-var-requires-clause-within c =
-    let x = c.index-as_slice-cell.result in
-    let l : c.args.cell < length c.as_slice.result.now = (let e = ap (λ (xs : List Cell). length xs) c.as_slice.ensures in let r = c.requires.cell in omega (arith, e, r)) in
-    let at = read_at c.args.layout.now.cells c.as_slice.result.now c.args.cell x c.as_slice.ensures l c.index-as_slice-cell.is in
-    let s = view_system c.args.timed.now.flat in
-    let within = node_within (view_system c.args.timed.now.flat) c.args.layout.now.placements c.args.layout.now.cells c.args.cell x c.requires.layout.are_cells at in
-    node_in_places s c.as_slice-2.result.now _ (c.as_slice-2.ensures ∙ c.requires.layout.places) (subst (λ (y : Cell). y.node < length (nodes s)) c.index-as_slice-cell.is within)
+pub variable-var-requires : goal.variable-var-requires
+variable-var-requires c =
+    let x = c.index-cells-cell.result in
+    let l : c.args.cell < length c.cells.result.now = (let e = ap (λ (xs : List Cell). length xs) c.cells.ensures.is in let r = c.requires.cell in omega (arith, e, r)) in
+    let at = read_at c.args.scheduled.now.layout.cells c.cells.result.now c.args.cell x c.cells.ensures.is l c.index-cells-cell.is in
+    let s = view_system c.args.scheduled.now.timed.flat in
+    let within = node_within s c.args.scheduled.now.layout.placements c.args.scheduled.now.layout.cells c.args.cell x c.cells.ensures.scheduled.layout.are_cells at in
+    subst (λ (y : Cell). y.node < length (nodes s)) c.index-cells-cell.is within
 
 pub loop-number-init : goal.loop-number-init
 loop-number-init c = record {
-  counted = count_none (view_system c.args.timed.now.flat) c.args.layout.now.placements c.args.layout.now.cells (λ u. (u.cell ≡ c.args.cell) × (u.piece < 0)) (λ u piece h is. (let l = h.1 in omega (arith, l)));
+  counted = count_none (view_system c.args.scheduled.now.timed.flat) c.args.scheduled.now.layout.placements c.args.scheduled.now.layout.cells (λ u. (u.cell ≡ c.args.cell) × (u.piece < 0)) (λ u piece h is. (let l = h.1 in omega (arith, l)));
   most = omega arith;
 }
 
 pub is_used-requires : goal.is_used-requires
 is_used-requires c =
-    let t = c.args.timed.now in
-    let l = c.args.layout.now in
-    let v = c.variable_of-var.result.now in
+    let t = c.args.scheduled.now.timed in
+    let l = c.args.scheduled.now.layout in
+    let v = c.variable-var.result.now in
     let piece = c.piece-item.result in
-    let x = c.index-as_slice-cell.result in
-    let slots = c.index-as_slice-cell-2.result in
-    let on = here t l c.args.cell x v slots c.as_slice.result.now c.as_slice-3.result.now c.requires.layout c.requires.cell c.as_slice.ensures c.index-as_slice-cell.is c.variable_of-var.ensures c.as_slice-3.ensures c.index-as_slice-cell-2.is in
+    let x = c.index-cells-cell.result in
+    let slots = c.index-slots-cell.result in
+    let on = here t l c.args.cell x v slots c.cells.result.now c.slots.result.now c.cells.ensures.scheduled.layout c.requires.cell c.cells.ensures.is c.index-cells-cell.is c.variable-var.ensures c.slots.ensures.is c.index-slots-cell.is in
     let lp : c.loop-number.number < length c.as_slice-piece-items.result.now = search rules in
     let is = get_mapped view_piece v.pieces c.loop-number.number piece (read_at v.pieces c.as_slice-piece-items.result.now c.loop-number.number piece c.as_slice-piece-items.ensures lp c.piece-item.is) in
     subst (λ (ts : List Slot). AreOfNode piece.domain ts) (sym c.as_slice-slots.ensures)
-    (are_of_node t l c.args.cell (view_variable v) slots c.requires.legal c.requires.layout.are_placings on c.loop-number.number (view_piece piece) is)
+    (are_of_node t l c.args.cell (view_variable v) slots c.cells.ensures.scheduled.legal c.cells.ensures.scheduled.layout.are_placings on c.loop-number.number (view_piece piece) is)
 
 pub loop-number-preserved : goal.loop-number-preserved
 loop-number-preserved c =
-    let s = view_system c.args.timed.now.flat in
-    let t = c.args.timed.now in
-    let l = c.args.layout.now in
+    let s = view_system c.args.scheduled.now.timed.flat in
+    let t = c.args.scheduled.now.timed in
+    let l = c.args.scheduled.now.layout in
     let p = c.args.cell in
-    let v = c.variable_of-var.result.now in
+    let v = c.variable-var.result.now in
     let piece = c.piece-item.result in
-    let x = c.index-as_slice-cell.result in
-    let slots = c.index-as_slice-cell-2.result in
+    let x = c.index-cells-cell.result in
+    let slots = c.index-slots-cell.result in
     let j = c.loop-number.number in
-    let on = here t l p x v slots c.as_slice.result.now c.as_slice-3.result.now c.requires.layout c.requires.cell c.as_slice.ensures c.index-as_slice-cell.is c.variable_of-var.ensures c.as_slice-3.ensures c.index-as_slice-cell-2.is in
+    let on = here t l p x v slots c.cells.result.now c.slots.result.now c.cells.ensures.scheduled.layout c.requires.cell c.cells.ensures.is c.index-cells-cell.is c.variable-var.ensures c.slots.ensures.is c.index-slots-cell.is in
     let lp : j < length c.as_slice-piece-items.result.now = search rules in
     let at = read_at v.pieces c.as_slice-piece-items.result.now j piece c.as_slice-piece-items.ensures lp c.piece-item.is in
     let is = get_mapped view_piece v.pieces j piece at in
     let used : IsTrue c.is_used.result ↔ Any (λ (t : Slot). IsTrue (has piece.domain t.point)) slots = subst (λ (ts : List Slot). IsTrue c.is_used.result ↔ Any (λ (t : Slot). IsTrue (has piece.domain t.point)) ts) c.as_slice-slots.ensures c.is_used.ensures in
     let s = view_system t.flat in
     let so_far = c.loop-number.invariant in
-    let node = (get_or c.as_slice.result.now p x).node in
-    let size_is = size_here s v c.args.sizes.now c.index-sizes-node.result c.as_slice-own.result.now node j piece c.requires.sizes c.index-sizes-node.is c.as_slice-own.ensures c.variable_of-var.ensures at in
+    let node = (get_or c.cells.result.now p x).node in
+    let size_is = size_here s v c.args.sizes.now c.index-sizes-node.result c.as_slice-own.result.now node j piece c.requires.sizes c.index-sizes-node.is c.as_slice-own.ensures c.variable-var.ensures at in
     elim c.if-is_used.branch [
       | then-is_used w ↦ (
           let new : c.if-is_used.sum ≡ c.loop-number.sum + made_size piece = w.sum-is ∙ ap (λ (n : ℕ). c.loop-number.sum + n) size_is in record {
@@ -139,13 +138,13 @@ loop-number-preserved c =
 
 pub returns-clause-count : goal.returns-clause-count
 returns-clause-count c =
-    let s = view_system c.args.timed.now.flat in
-    let t = c.args.timed.now in
-    let l = c.args.layout.now in
+    let s = view_system c.args.scheduled.now.timed.flat in
+    let t = c.args.scheduled.now.timed in
+    let l = c.args.scheduled.now.layout in
     let p = c.args.cell in
-    let v = c.variable_of-var.result.now in
-    let x = c.index-as_slice-cell.result in
-    let slots = c.index-as_slice-cell-2.result in
-    let on = here t l p x v slots c.as_slice.result.now c.as_slice-3.result.now c.requires.layout c.requires.cell c.as_slice.ensures c.index-as_slice-cell.is c.variable_of-var.ensures c.as_slice-3.ensures c.index-as_slice-cell-2.is in
+    let v = c.variable-var.result.now in
+    let x = c.index-cells-cell.result in
+    let slots = c.index-slots-cell.result in
+    let on = here t l p x v slots c.cells.result.now c.slots.result.now c.cells.ensures.scheduled.layout c.requires.cell c.cells.ensures.is c.index-cells-cell.is c.variable-var.ensures c.slots.ensures.is c.index-slots-cell.is in
     let over : length c.as_slice-piece-items.result.now ≤ c.loop-number.number = search rules in
     whole_cell s l.placements l.cells p c.loop-number.number c.loop-number.sum c.loop-number.invariant.counted (λ u piece is_use e. within u piece s l.placements l.cells is_use p e v slots on c.as_slice-piece-items.result.now c.as_slice-piece-items.ensures c.loop-number.number over)

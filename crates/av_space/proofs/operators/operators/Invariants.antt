@@ -5,6 +5,6 @@ use Rattle.av_space.proofs.operators.operators.Given as goal
 
 abbrev pub invariant-loop-cell : goal.invariant-loop-cell
 invariant-loop-cell l = record {
-  counted : IsCountOf (view_system l.timed.flat) l.layout.placements l.layout.cells (λ u. u.cell < l.cell) l.sum;
+  counted : IsCountOf (view_system l.scheduled.timed.flat) l.scheduled.layout.placements l.scheduled.layout.cells (λ u. u.cell < l.cell) l.sum;
   most : l.sum ≤ l.cell * 2 ^ 96;
 }

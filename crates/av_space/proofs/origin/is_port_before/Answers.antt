@@ -25,15 +25,15 @@ returns-then-own_piece-piece c =
     as_test a.piece own.piece (IsPortBefore cells a own)
     (by_pieces cells a own x y (slice_get-get_or cells a.cell c.index-cells-port.result c.requires.first) (slice_get-get_or cells own.cell c.index-cells-cell.result c.requires.second) c.if-node-other.false c.if-own_piece-piece.true)
 
-pub returns-then-own_site-site : goal.returns-then-own_site-site
-returns-then-own_site-site c =
+pub returns-then-port-site : goal.returns-then-port-site
+returns-then-port-site c =
     let cells = c.args.cells.now in
     let a = c.args.port.now in
     let own : InPort = record { cell = c.args.cell; piece = c.args.piece; site = c.args.site } in
     let x = get_or cells a.cell c.index-cells-port.result in
     let y = get_or cells own.cell c.index-cells-cell.result in
     as_test a.site own.site (IsPortBefore cells a own)
-    (by_sites cells a own x y (slice_get-get_or cells a.cell c.index-cells-port.result c.requires.first) (slice_get-get_or cells own.cell c.index-cells-cell.result c.requires.second) c.if-node-other.false c.if-own_piece-piece.false c.if-own_site-site.true)
+    (by_sites cells a own x y (slice_get-get_or cells a.cell c.index-cells-port.result c.requires.first) (slice_get-get_or cells own.cell c.index-cells-cell.result c.requires.second) c.if-node-other.false c.if-own_piece-piece.false c.if-port-site.true)
 
 pub returns : goal.returns
 returns c =
@@ -43,4 +43,4 @@ returns c =
     let x = get_or cells a.cell c.index-cells-port.result in
     let y = get_or cells own.cell c.index-cells-cell.result in
     as_test a.cell own.cell (IsPortBefore cells a own)
-    (by_cells cells a own x y (slice_get-get_or cells a.cell c.index-cells-port.result c.requires.first) (slice_get-get_or cells own.cell c.index-cells-cell.result c.requires.second) c.if-node-other.false c.if-own_piece-piece.false c.if-own_site-site.false)
+    (by_cells cells a own x y (slice_get-get_or cells a.cell c.index-cells-port.result c.requires.first) (slice_get-get_or cells own.cell c.index-cells-cell.result c.requires.second) c.if-node-other.false c.if-own_piece-piece.false c.if-port-site.false)

@@ -8,19 +8,19 @@ use Rattle.av_space.proofs.placing.placements.Goals as goal
 
 pub placement_of-requires-clause-not_zero : goal.placement_of-requires-clause-not_zero
 placement_of-requires-clause-not_zero c = λ some.
-    let l : c.loop-time.time-index < length c.args.timed.now.times = (let t = c.loop-time-test.true in let e = ap (λ (xs : List Time). length xs) c.as_slice-time-items.ensures in omega (arith, t, e)) in
-    let is = c.time-item.is ∙ ap (λ (xs : List Time). get_or xs c.loop-time.time-index c.time-item.result) c.as_slice-time-items.ensures in
-    (time_of c.args.timed.now c.loop-time.time-index c.time-item.result c.requires l is).not_zero some
+    let l : c.loop-time.time-index < length c.args.timed.now.times = (let t = c.loop-time-test.true in let e = ap (λ (xs : List Time). length xs) c.times-time-items.ensures.is in omega (arith, t, e)) in
+    let is = c.time-item.is ∙ ap (λ (xs : List Time). get_or xs c.loop-time.time-index c.time-item.result) c.times-time-items.ensures.is in
+    (time_of c.args.timed.now c.loop-time.time-index c.time-item.result c.times-time-items.ensures.legal l is).not_zero some
 
 pub placement_of-requires-clause-small : goal.placement_of-requires-clause-small
 placement_of-requires-clause-small c =
-    let l : c.loop-time.time-index < length c.args.timed.now.times = (let t = c.loop-time-test.true in let e = ap (λ (xs : List Time). length xs) c.as_slice-time-items.ensures in omega (arith, t, e)) in
-    let is = c.time-item.is ∙ ap (λ (xs : List Time). get_or xs c.loop-time.time-index c.time-item.result) c.as_slice-time-items.ensures in
-    (time_of c.args.timed.now c.loop-time.time-index c.time-item.result c.requires l is).small
+    let l : c.loop-time.time-index < length c.args.timed.now.times = (let t = c.loop-time-test.true in let e = ap (λ (xs : List Time). length xs) c.times-time-items.ensures.is in omega (arith, t, e)) in
+    let is = c.time-item.is ∙ ap (λ (xs : List Time). get_or xs c.loop-time.time-index c.time-item.result) c.times-time-items.ensures.is in
+    (time_of c.args.timed.now c.loop-time.time-index c.time-item.result c.times-time-items.ensures.legal l is).small
 
 pub loop-time-preserved : goal.loop-time-preserved
 loop-time-preserved c =
-    let items = c.as_slice-time-items.result.now in
+    let items = c.times-time-items.result.now in
     let k = c.loop-time.time-index in
     let t = c.time-item.result in
     let list = c.loop-time.list in
@@ -35,6 +35,6 @@ loop-time-preserved c =
 pub returns : goal.returns
 returns c =
     record {
-      times_are = c.loop-time.invariant.times ∙ take_all c.loop-time.time-index c.as_slice-time-items.result.now c.loop-time-test.false ∙ c.as_slice-time-items.ensures;
+      times_are = c.loop-time.invariant.times ∙ take_all c.loop-time.time-index c.times-time-items.result.now c.loop-time-test.false ∙ c.times-time-items.ensures.is;
       each = c.loop-time.invariant.each;
     }

@@ -1,28 +1,16 @@
-use Rattle.std.proofs.Common.{rules, ◌<◌, ◌≤◌, ℕ, List, length, ap, arith}
+use Rattle.std.proofs.Common.{rules, ◌≤◌, length, arith}
 use Rattle.std.proofs.lemmas.Option.{slice_get_within}
 use Rattle.av_flat.specs.Nodes.{nodes}
 use Rattle.av_flat.specs.Trees.{view_system}
 use Rattle.av_space.proofs.Fed.{all_ports}
-use Rattle.av_space.proofs.NodeParts.{small_node}
-use Rattle.av_flat.proofs.NodeNumbers.{places_number}
 use Rattle.av_space.proofs.ports.add_nodes.Goals as goal
-
-pub add_node-requires-clause-small : goal.add_node-requires-clause-small
-add_node-requires-clause-small c =
-    let t = c.args.timed.now in
-    let l = c.args.layout.now in
-    let w : c.loop-node.node < length c.as_slice-node-end.result.now = search rules in
-    let within : c.loop-node.node < length (nodes (view_system t.flat)) =
-    (let a = ap (λ (xs : List ℕ). length xs) c.as_slice-node-end.ensures in let b = places_number (view_system t.flat) l.places c.requires.layout.places in omega (arith, w, a, b)) in
-    small_node t l c.loop-node.node c.requires.legal c.requires.layout c.requires.few within
 
 pub returns-clause-ports : goal.returns-clause-ports
 returns-clause-ports c =
-    let t = c.args.timed.now in
-    let l = c.args.layout.now in
+    let t = c.args.scheduled.now.timed in
+    let l = c.args.scheduled.now.layout in
     let s = view_system t.flat in
-    let over : length c.as_slice-node-end.result.now ≤ c.loop-node.node = search rules in
-    let many : length (nodes s) ≤ c.loop-node.node =
-    (let a = ap (λ (xs : List ℕ). length xs) c.as_slice-node-end.ensures in let b = places_number (view_system t.flat) l.places c.requires.layout.places in omega (arith, over, a, b)) in
+    let over : c.node_count-node-end.result ≤ c.loop-node.node = search rules in
+    let many : length (nodes s) ≤ c.loop-node.node = (let count = c.node_count-node-end.ensures in omega (arith, over, count)) in
     all_ports s t.helpers l.placements l.cells c.loop-node.node c.loop-node.first c.loop-node.ports
     (λ port is. let a = slice_get_within (nodes s) is.4.node is.4.variable is.4.is_variable in omega (arith, a, many)) c.loop-node.invariant.0

@@ -1,16 +1,23 @@
-use Rattle.std.proofs.Common.{rules, ◌≡◌, ◌∙◌, ℕ, List, false, IsTrue, length, get_or, refl, sym, ap, arith}
+use Rattle.std.proofs.Common.{rules, ◌≡◌, ◌∙◌, ◌<◌, ℕ, List, false, IsTrue, length, refl, sym, ap, subst, arith}
+use Rattle.std.proofs.lemmas.Option.{slice_get_within}
 use Rattle.std.proofs.lemmas.Result.{on_ok_weaker}
 use Rattle.av_flat.specs.declared.flat.Var.{Var}
+use Rattle.av_flat.specs.declared.timed.Helper.{Helper}
+use Rattle.av_flat.specs.declared.timed.Timed.{Timed}
+use Rattle.av_flat.specs.Nodes.{nodes, node_place}
 use Rattle.av_flat.specs.Signatures.{is_computed}
 use Rattle.av_flat.specs.Trees.{view_system, view_variable}
 use Rattle.av_space.specs.Taps.{helper_at}
 use Rattle.av_space.specs.inner.Feeding.{direction_of}
 use Rattle.av_space.proofs.Fed.{pass_site, next_site}
-use Rattle.av_space.proofs.PieceParts.{var_there, var_is, node_listed, place_listed, reference_there, reads_other, not_input, site_is}
+use Rattle.av_space.proofs.PieceParts.{var_there, var_is, reference_there, reads_other, not_input, site_is}
 use Rattle.av_space.proofs.ports.add_reference.Goals as goal
 
 pub bounds-as_slice-var : goal.bounds-as_slice-var
-bounds-as_slice-var c = let l = var_there c.args.at.now c.args.number c.args.var c.args.map.now c.requires.part in let e = ap (λ (xs : List Var). length xs) c.as_slice.ensures in omega (arith, l, e)
+bounds-as_slice-var c =
+    let l = var_there c.args.at.now c.args.number c.args.var c.args.map.now c.requires.part in
+    let e = ap (λ (xs : List Var). length xs) (c.as_slice.ensures ∙ ap (λ (t : Timed). t.flat.vars) (c.system-timed.ensures ∙ c.timed-nodes.ensures.is)) in
+    omega (arith, l, e)
 
 pub offset_bounds-as_slice-var : goal.offset_bounds-as_slice-var
 offset_bounds-as_slice-var c = let within = bounds-as_slice-var c in omega arith
@@ -22,17 +29,18 @@ returns-then-is_computed c =
     let j = c.args.number in
     let m = c.args.map.now in
     let x = c.index-as_slice-var.result in
-    let read = var_is at c.args.var x c.as_slice.result.now (var_there at j c.args.var m c.requires.part) c.as_slice.ensures c.index-as_slice-var.is in
+    let read = var_is at c.args.var x c.as_slice.result.now (var_there at j c.args.var m c.requires.part) (c.as_slice.ensures ∙ ap (λ (t : Timed). t.flat.vars) (c.system-timed.ensures ∙ c.timed-nodes.ensures.is)) c.index-as_slice-var.is in
     let t : IsTrue c.is_computed.result = search rules in
     let kind : IsTrue (is_computed x.kind) = sym c.is_computed.ensures ∙ t in
-    pass_site (view_system at.timed.now.flat) at.timed.now.helpers at.layout.now.placements at.layout.now.cells at.node at.number j at.first c.args.ports.now is.first
+    pass_site (view_system at.scheduled.now.timed.flat) at.scheduled.now.timed.helpers at.scheduled.now.layout.placements at.scheduled.now.layout.cells at.node at.number j at.first c.args.ports.now is.first
     (reads_other at is j c.args.var m (view_variable x) (reference_there at j c.args.var m c.requires.part) read (not_input (view_variable x) kind)) c.requires.old
 
-pub bounds-as_slice-at : goal.bounds-as_slice-at
-bounds-as_slice-at c = node_listed c.args.at.now c.requires.at c.as_slice-2.result.now c.as_slice-2.ensures
-
-pub offset_bounds-as_slice-at : goal.offset_bounds-as_slice-at
-offset_bounds-as_slice-at c = let within = node_listed c.args.at.now c.requires.at c.as_slice-2.result.now c.as_slice-2.ensures in omega arith
+pub place-place-requires : goal.place-place-requires
+place-place-requires c =
+    let at = c.args.at.now in
+    let is = c.requires.at in
+    let s = view_system at.scheduled.now.timed.flat in
+    subst (λ (t : Timed). at.node < length (nodes (view_system t.flat))) (sym c.timed-nodes.ensures.is) (slice_get_within (nodes s) at.node is.variable is.is_variable)
 
 pub add_site-requires-clause-site : goal.add_site-requires-clause-site
 add_site-requires-clause-site c =
@@ -41,12 +49,11 @@ add_site-requires-clause-site c =
     let j = c.args.number in
     let m = c.args.map.now in
     let x = c.index-as_slice-var.result in
-    let read = var_is at c.args.var x c.as_slice.result.now (var_there at j c.args.var m c.requires.part) c.as_slice.ensures c.index-as_slice-var.is in
+    let read = var_is at c.args.var x c.as_slice.result.now (var_there at j c.args.var m c.requires.part) (c.as_slice.ensures ∙ ap (λ (t : Timed). t.flat.vars) (c.system-timed.ensures ∙ c.timed-nodes.ensures.is)) c.index-as_slice-var.is in
     let f : c.is_computed.result ≡ false = search rules in
     let kind : is_computed x.kind ≡ false = sym c.is_computed.ensures ∙ f in
-    let place = place_listed at is c.as_slice-2.result.now c.as_slice-2.ensures in
-    let direction = c.direction_of.ensures ∙ ap (λ (hs : _). direction_of (helper_at hs (get_or c.as_slice-2.result.now at.node 0) at.number j)) c.as_slice-helpers.ensures
-    ∙ ap (λ (n : ℕ). direction_of (helper_at at.timed.now.helpers n at.number j)) place in
+    let direction = c.direction_of.ensures ∙ ap (λ (hs : List Helper). direction_of (helper_at hs c.place-place.result at.number j)) (c.as_slice-helpers.ensures ∙ ap (λ (t : Timed). t.helpers) (c.system-timed.ensures ∙ c.timed-nodes.ensures.is))
+    ∙ ap (λ (n : ℕ). direction_of (helper_at at.scheduled.now.timed.helpers n at.number j)) (c.place-place.ensures ∙ ap (λ (t : Timed). node_place (view_system t.flat) at.node) c.timed-nodes.ensures.is) in
     site_is at is j c.args.var m x _ c.requires.part read kind refl refl refl direction
 
 pub returns : goal.returns
@@ -54,5 +61,5 @@ returns c =
     let at = c.args.at.now in
     let is = c.requires.at in
     on_ok_weaker c.add_site.result
-    (λ h. next_site (view_system at.timed.now.flat) at.timed.now.helpers at.layout.now.placements at.layout.now.cells at.node at.number c.args.number at.first at.last c.add_site.new.ports is.first is.last h)
+    (λ h. next_site (view_system at.scheduled.now.timed.flat) at.scheduled.now.timed.helpers at.scheduled.now.layout.placements at.scheduled.now.layout.cells at.node at.number c.args.number at.first at.last c.add_site.new.ports is.first is.last h)
     c.add_site.ensures

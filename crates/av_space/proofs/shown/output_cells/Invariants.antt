@@ -6,4 +6,4 @@ use Rattle.av_space.specs.Ports.{is_output_cell}
 use Rattle.av_space.proofs.shown.output_cells.Given as goal
 
 abbrev pub invariant-loop-number : goal.invariant-loop-number
-invariant-loop-number l = l.outputs ≡ filter (is_output_cell (view_system l.timed.flat) l.layout.cells) (range_with_len 0 l.number)
+invariant-loop-number l = l.outputs ≡ filter (is_output_cell (view_system l.scheduled.timed.flat) l.scheduled.layout.cells) (range_with_len 0 l.number)

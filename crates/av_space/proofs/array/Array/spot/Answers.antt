@@ -1,29 +1,29 @@
 use Rattle.std.proofs.Common.{◌≡◌, ◌∙◌, ℕ, ◌<◌, List, length, get_or, refl, sym, ap, subst, arith, Some}
 use Rattle.std.specs.Prelude.{slice_get, filter}
 use Rattle.std.proofs.lemmas.Option.{slice_get-get_or}
-use Rattle.av_flat.specs.Nodes.{nodes}
+use Rattle.av_flat.specs.declared.timed.Timed.{Timed}
+use Rattle.av_flat.specs.Nodes.{nodes, node_place}
 use Rattle.av_flat.specs.Points.{has}
-use Rattle.av_flat.specs.Trees.{view_piece, view_variable}
+use Rattle.av_flat.specs.Trees.{view_piece, view_system, view_variable}
 use Rattle.av_space.specs.declared.cells.Cell.{Cell}
 use Rattle.av_space.specs.declared.layout.Slot.{Slot}
 use Rattle.av_space.specs.Spots.{system_of, placings_of, cells_of, AreSlotsIn}
-use Rattle.av_flat.proofs.NodeNumbers.{places_number}
 use Rattle.av_space.proofs.OffCells.{are_of_node}
-use Rattle.av_space.proofs.NodeTaps.{place_is}
 use Rattle.av_space.proofs.OnSpots.{some_slots}
 use Rattle.av_space.proofs.SiteLinks.{cell_node}
 use Rattle.av_space.proofs.array.Array.spot.Goals as goal
 use Rattle.av_base.proofs.Lists.{some_is}
 
-pub bounds-as_slice-node : goal.bounds-as_slice-node
-bounds-as_slice-node c =
+pub place-place-requires : goal.place-place-requires
+place-place-requires c =
     let a = c.args.self.now in
-    let is = c.requires.array.layout in
-    let l = cell_node (system_of a) (placings_of a) (cells_of a) is.are_cells c.args.cell c.index-as_slice-cell.result c.requires.cell in
-    let size = places_number (system_of a) a.layout.places is.places in
-    let same = ap (λ (x : List Cell). (get_or x c.args.cell c.index-as_slice-cell.result).node) c.as_slice.ensures in
-    let many = ap (λ (x : List ℕ). length x) c.as_slice-2.ensures in
-    omega (arith, l, size, same, many)
+    let is = c.requires.array in
+    let d = c.index-as_slice-cell.result in
+    let l = cell_node (system_of a) (placings_of a) (cells_of a) is.layout.are_cells c.args.cell d c.requires.cell in
+    let same = ap (λ (x : List Cell). (get_or x c.args.cell d).node) c.as_slice.ensures in
+    let n = (get_or c.as_slice.result.now c.args.cell d).node in
+    let low : n < length (nodes (system_of a)) = omega (arith, l, same) in
+    subst (λ (t : Timed). n < length (nodes (view_system t.flat))) (sym is.nodes) low
 
 pub slots_in-requires : goal.slots_in-requires
 slots_in-requires c =
@@ -44,11 +44,6 @@ returns c =
     let there : slice_get (cells_of a) k ≡ Some (get_or (cells_of a) k d) = slice_get-get_or (cells_of a) k d c.requires.cell in
     let same : v.cell ≡ here = some_is v.cell (get_or (cells_of a) k d) (sym v.is_cell ∙ there) ∙ ap (λ (x : List Cell). get_or x k d) (sym c.as_slice.ensures) in
     let node : v.cell.node ≡ here.node = ap (λ (x : Cell). x.node) same in
-    let l = cell_node s (placings_of a) (cells_of a) c.requires.array.layout.are_cells k d c.requires.cell in
-    let size = places_number s a.layout.places c.requires.array.layout.places in
-    let moved = ap (λ (x : List Cell). (get_or x k d).node) c.as_slice.ensures in
-    let many = ap (λ (x : List ℕ). length x) c.as_slice-2.ensures in
-    let low : here.node < length c.as_slice-2.result.now = omega (arith, l, size, moved, many) in
     let set = c.piece_at-piece.result.now.domain in
     let own : AreSlotsIn a k v.cell.node set (filter (λ (t : Slot). has set t.point) c.slots.result.now) = some_slots a k v.cell set c.slots.result.now v.is_cell c.slots.ensures in (
       refl,
@@ -57,7 +52,7 @@ returns c =
         cell = v.cell;
         is_cell = v.is_cell;
         node = node;
-        place = place_is s c.as_slice-2.result.now here.node (c.as_slice-2.ensures ∙ c.requires.array.layout.places) low;
+        place = c.place-place.ensures ∙ ap (λ (t : Timed). node_place (view_system t.flat) here.node) c.requires.array.nodes;
         is_variable = subst (λ (n : ℕ). slice_get (nodes s) n ≡ Some (view_variable c.variable-var.result.now)) node v.is_variable;
         is_piece = c.piece_at-piece.ensures;
         are_slots = subst (λ (slots : List Slot). AreSlotsIn a k here.node set slots) (sym c.in_ok-slots.ensures) (subst (λ (n : ℕ). AreSlotsIn a k n set (filter (λ (t : Slot). has set t.point) c.slots.result.now)) node own);

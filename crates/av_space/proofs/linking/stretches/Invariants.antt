@@ -1,8 +1,0 @@
-use Rattle.av_flat.specs.Trees.{view_system}
-use Rattle.av_space.specs.Taps.{IsTapped}
-use Rattle.av_space.specs.inner.Stretches.{HasLinks, IsOnBelow}
-use Rattle.std.proofs.Common.{[]}
-use Rattle.av_space.proofs.linking.stretches.Given as goal
-
-abbrev pub invariant-loop-number : goal.invariant-loop-number
-invariant-loop-number l = HasLinks (IsTapped (view_system l.timed.flat) l.timed.helpers l.layout.placements l.layout.cells) (IsOnBelow l.number) [] l.stretches

@@ -1,0 +1,105 @@
+//! Timed systems with their nodes.
+
+ghost use Rattle.std.specs.Prelude.{◌≡◌, ◌<◌, ◌≤◌, length, Some, slice_get, IfOk};
+ghost use Rattle.av_flat.specs.Legal.{IsLegal};
+ghost use Rattle.av_flat.specs.Nodes.{nodes, node_place, number_at};
+ghost use Rattle.av_flat.specs.Trees.{view_system, view_variable};
+
+use av_base::{List, Memory};
+use av_flat::{Nodes, Time, Timed, Var, places};
+use std::alloc::Global;
+use std::marker::Model;
+
+/// A legal timed system with its nodes, found once. Contracts see the system.
+#[derive(Drop)]
+pub(crate) struct TimedNodes<'a> {
+    timed: &'a Timed,
+    nodes: Nodes<'a>,
+    // Of each node among the variables.
+    places: List<usize>,
+}
+
+impl<'a> Model for TimedNodes<'a> {
+    ghost use Rattle.std.specs.Prelude.{◌≡◌};
+    ghost use Rattle.std.specs.Coded.{codes};
+    ghost use Rattle.av_flat.specs.contracts.timed.Timed as made;
+    ghost use Rattle.av_flat.specs.declared.timed.Timed.{Timed as TimedSeen};
+    ghost use Rattle.av_flat.specs.Legal.{IsLegal};
+    ghost use Rattle.av_flat.specs.Nodes.{places_of};
+    ghost use Rattle.av_flat.specs.Trees.{view_system};
+
+    ghost Value = { TimedSeen };
+
+    ghost coded = { Prim.hlevel (codes, made.the_row.coded) };
+
+    ghost view = { λ it. it.timed.now };
+
+    ghost invariant = { λ it. (it.nodes ≡ it.timed.now.flat)
+        × (it.places ≡ places_of (view_system it.timed.now.flat)) × IsLegal it.timed.now };
+}
+
+impl<'a> TimedNodes<'a> {
+    /// Those of a system.
+    pub(crate) fn new(alloc: Global, timed: &'a Timed) -> Result<TimedNodes<'a>, Memory>
+        requires { IsLegal timed.now }
+        ensures { IfOk result (λ found. found ≡ timed.now) }
+    {
+        let nodes = Nodes::new(alloc, &timed.flat)?;
+        let places = places(alloc, &timed.flat)?;
+        Ok(TimedNodes {
+            timed,
+            nodes,
+            places,
+        })
+    }
+
+    /// The system.
+    pub(crate) fn system(&self) -> &'a Timed
+        ensures { result.now ≡ self.now }
+    {
+        self.timed
+    }
+
+    /// The time of each node.
+    pub(crate) fn times(&self) -> &'a [Time]
+        ensures is { result.now ≡ self.now.times }
+        ensures legal { IsLegal self.now }
+    {
+        self.timed.times.as_slice()
+    }
+
+    /// How many nodes there are.
+    pub(crate) fn len(&self) -> usize
+        ensures count { result ≡ length (nodes (view_system self.now.flat)) }
+        ensures most { result ≤ 1073741824 }
+        ensures legal { IsLegal self.now }
+    {
+        self.nodes.len()
+    }
+
+    /// The number of the node at a place of the variables.
+    pub(crate) fn number(&self, place: u32) -> usize
+        requires { place < length self.now.flat.vars }
+        ensures { result ≡ number_at (view_system self.now.flat) place }
+    {
+        self.nodes.number(place as usize)
+    }
+
+    /// The place of a node among the variables.
+    pub(crate) fn place(&self, node: usize) -> usize
+        requires { node < length (nodes (view_system self.now.flat)) }
+        ensures { result ≡ node_place (view_system self.now.flat) node }
+    {
+        self.places.as_slice()[node]
+    }
+
+    /// The variable of a node.
+    pub(crate) fn variable(&self, node: usize) -> &'a Var
+        requires { node < length (nodes (view_system self.now.flat)) }
+        ensures is { slice_get (nodes (view_system self.now.flat)) node
+            ≡ Some (view_variable result.now) }
+        ensures legal { IsLegal self.now }
+    {
+        self.nodes.variable(node)
+    }
+}
