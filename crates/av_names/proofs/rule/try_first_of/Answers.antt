@@ -1,0 +1,12 @@
+use Rattle.std.proofs.Common.{ap, ◌∙◌, option_map}
+use Rattle.av_names.specs.Found.{sooner}
+use Rattle.av_names.proofs.Sooner.{first_more}
+use Rattle.av_names.proofs.rule.try_first_of.Goals as goal
+
+pub loop-item-preserved : goal.loop-item-preserved
+loop-item-preserved g c = λ find says.
+    let at = g.P.HasPlace.place_of in
+    let best = option_map g.P.HasPlace.value c.loop-item.first in
+    first_more at find c.args.items.now c.loop-item.item-index c.item-item.result best (option_map g.P.HasPlace.value c.sooner-first.result)
+    c.loop-item-test.true c.item-item.is (c.loop-item.invariant find says)
+    (c.sooner-first.ensures ∙ ap (sooner at best) (says c.item-item.result c.in_ok-next.next c.in_ok-next.ensures))
