@@ -8,7 +8,7 @@ use Rattle.av_names.proofs.Summed.{great_is}
 use Rattle.av_names.proofs.measure.great.Goals as goal
 
 pub first_of-requires : goal.first_of-requires
-first_of-requires c = ((refl, tt), λ w among. (All-contains (λ w. IsShortWritten (written w)) c.args.all.now w c.requires.short among, c.requires.sizes))
+first_of-requires c = λ k. ((refl, tt), λ w among. (All-contains (λ w. IsShortWritten (written w)) c.args.all.now w c.requires.short among, c.requires.sizes))
 
 pub returns : goal.returns
 returns c = λ s are.

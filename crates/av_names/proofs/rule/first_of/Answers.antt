@@ -1,6 +1,5 @@
-use Rattle.std.proofs.Common.{refl, ap, ◌∙◌, option_map}
+use Rattle.std.proofs.Common.{refl, option_map}
 use Rattle.std.proofs.lemmas.List.Elements.{Contains-get_or}
-use Rattle.av_names.specs.Found.{sooner}
 use Rattle.av_names.proofs.Sooner.{first_more}
 use Rattle.av_names.proofs.rule.first_of.Goals as goal
 
@@ -11,8 +10,6 @@ fault-next-requires g c = λ k.
 
 pub loop-item-preserved : goal.loop-item-preserved
 loop-item-preserved g c = λ find says.
-    let at = g.P.HasPlace.place_of in
-    let best = option_map g.P.HasPlace.value c.loop-item.first in
-    first_more at find c.args.items.now c.loop-item.item-index c.item-item.result best (option_map g.P.HasPlace.value c.sooner-first.result)
-    c.loop-item-test.true c.item-item.is (c.loop-item.invariant find says)
-    (c.sooner-first.ensures ∙ ap (sooner at best) (says c.item-item.result c.fault-next.result c.fault-next.ensures))
+    let seen = option_map g.P.HasPlace.value in
+    first_more g.P.HasPlace.place_of find c.args.items.now c.loop-item.item-index c.item-item.result (seen c.loop-item.first) (seen c.fault-next.result) (seen c.sooner-first.result)
+    c.loop-item-test.true c.item-item.is (c.loop-item.invariant find says) (says c.item-item.result c.fault-next.result c.fault-next.ensures) c.sooner-first.ensures
