@@ -129,8 +129,3 @@ first_more at rule xs i x best found next lt here before is now =
     let split : take (i + 1) xs ≡ take i xs ++ x ∷ [] = rw (add-one, take-suc xs i x lt, sym here) refl in
     now ∙ ap (sooner at best) is ∙ ap (λ b. sooner at b (rule x)) before ∙ ap (λ r. sooner at (first_of at rule (take i xs)) r) (sym (sooner_nothing at (rule x)))
     ∙ sym (first_append at rule (take i xs) (x ∷ [])) ∙ ap (first_of at rule) (sym split)
-
--- all objects
-pub first_whole : {A B : Type 0} (at : A → Place) (rule : B → Option A) (xs : List B) (i : ℕ) (best : Option A) → length xs ≤ i → best ≡ first_of at rule (take i xs)
-    → best ≡ first_of at rule xs
-first_whole at rule xs i best past so_far = so_far ∙ ap (first_of at rule) (take_all i xs past)
