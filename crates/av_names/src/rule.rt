@@ -30,7 +30,8 @@ pub(crate) trait TryRule<'a, T, P: HasPlace> {
         ensures { IfOk result (λ fault. gives self.now item.now fault) };
 }
 
-/// The first place in the items at which the rule is broken.
+/// The first place in the items at which the rule is broken. Contracts have it as the first that `find` finds, where
+/// `find` is the definition that the rule's answers follow.
 pub(crate) fn first_of<'a, T, P: HasPlace, R: Rule<'a, T, P>>(rule: &R, items: &'a [T]) -> Option<P>
     requires { (item : T) → Contains items.now item → R.takes rule.now item }
     ensures { (find : T → Option P.Value) → ((item : T) (fault : Option P)

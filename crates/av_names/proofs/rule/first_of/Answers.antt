@@ -4,9 +4,10 @@ use Rattle.av_names.proofs.Sooner.{first_more}
 use Rattle.av_names.proofs.rule.first_of.Goals as goal
 
 pub fault-next-requires : goal.fault-next-requires
-fault-next-requires g c = λ k.
-    ( (refl, tt)
-    , c.requires c.item-item.result (rw c.item-item.is (Contains-get_or c.args.items.now c.loop-item.item-index c.item-item.result c.loop-item-test.true)) )
+fault-next-requires g c = λ k. (
+  (refl, tt),
+  c.requires c.item-item.result (rw c.item-item.is (Contains-get_or c.args.items.now c.loop-item.item-index c.item-item.result c.loop-item-test.true)),
+)
 
 pub loop-item-preserved : goal.loop-item-preserved
 loop-item-preserved g c = λ find says.
