@@ -5,6 +5,7 @@ use Rattle.std.proofs.lemmas.List.{get_or-map, length-map}
 use Rattle.av_tree.specs.declared.system.Declaration.{Declaration}
 use Rattle.av_tree.specs.Trees.{Text}
 use Rattle.av_tree.specs.Rows.{is_index}
+use Rattle.av_names.specs.inner.FirstAgain.{first_again}
 use Rattle.av_names.specs.inner.Seen.{SameNames}
 use Rattle.av_names.specs.Repetitions.{again, second, repeated_variable}
 use Rattle.av_names.proofs.Sets.{one_more}
@@ -75,6 +76,22 @@ module _ {A : Type 0} (f : A → Text) where
   pub one_more_of : (xs : List A) (set set' : List Text) (i : ℕ) (x : A) → i < length xs → x ≡ get_or xs i x
       → ((name : Text) → is_index set' name ≡ (bytes_eq (f x) name || is_index set name)) → SameNames set (take i (map f xs)) → SameNames set' (take (i + 1) (map f xs))
   one_more_of xs set set' i x lt at = one_more (map f xs) set set' i (f x) (within xs i lt) (here xs i x lt at)
+
+-- ---- the first whose name came before
+
+module _ {A : Type 0} (f : A → Text) where
+  again_alike : (a b : List Text) (xs : List A) → SameNames a b → first_again f a xs ≡ first_again f b xs
+  again_alike a b [] same = refl
+  again_alike a b (x ∷ xs) same =
+      ap (λ t. if t then Some x else first_again f (f x ∷ a) xs) (same (f x))
+      ∙ ap (λ r. if is_index b (f x) then Some x else r) (again_alike (f x ∷ a) (f x ∷ b) xs (λ name. ap (λ t. bytes_eq (f x) name || t) (same name)))
+
+  -- one whose name is none of those before it
+  pub again_later : (start set set' : List Text) (xs : List A) (i : ℕ) (x : A) → i < length xs → x ≡ get_or xs i x → SameNames set' (f x ∷ set) → is_index set (f x) ≡ false
+      → first_again f start xs ≡ first_again f set (drop i xs) → first_again f start xs ≡ first_again f set' (drop (i + 1) xs)
+  again_later start set set' xs i x lt at more other so_far =
+      so_far ∙ ap (first_again f set) (next_item xs i x lt at) ∙ ap (λ t. if t then Some x else first_again f (f x ∷ set) (drop (i + 1) xs)) other
+      ∙ again_alike (f x ∷ set) set' (drop (i + 1) xs) (λ name. sym (more name))
 
 -- ---- variables
 
