@@ -26,12 +26,9 @@ use Rattle.av_names.proofs.Sooner.{first_append, first_map, first_filter_map}
 
 -- ---- the names of the variables
 
-pub names_all : (vs : List (Bor Declaration)) (i : ℕ) → length vs ≤ i → take i (map (λ d. d.now.name) vs) ≡ declared_as (map (λ d. d.now) vs)
-names_all vs i past = take_all i (map (λ d. d.now.name) vs) (omega (arith, length-map vs (λ d. d.now.name), past)) ∙ fused vs
-  where
-    fused : (vs : List (Bor Declaration)) → map (λ d. d.now.name) vs ≡ declared_as (map (λ d. d.now) vs)
-    fused [] = refl
-    fused (v ∷ vs) = ap (λ names. v.now.name ∷ names) (fused vs)
+pub names_all : (vs : List (Bor Declaration)) → map (λ d. d.now.name) vs ≡ declared_as (map (λ d. d.now) vs)
+names_all [] = refl
+names_all (v ∷ vs) = ap (λ names. v.now.name ∷ names) (names_all vs)
 
 -- ---- the equations, with what was looked up
 

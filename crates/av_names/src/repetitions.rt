@@ -10,8 +10,9 @@ ghost use Rattle.av_names.specs.Repetitions as repeats;
 ghost use Rattle.av_names.specs.inner.Repeating.{repeated_in_lists};
 ghost use Rattle.av_names.specs.inner.Seen.{found, part, SameNames};
 
+use crate::defined::declaration_found;
 use crate::found::{Found, sooner};
-use crate::name_sets::{is_among, put_name, set_of};
+use crate::name_sets::{first_again, is_among, put_name, set_of};
 use crate::part::Part;
 use crate::rule::{TryRule, try_first_of};
 use av_base::{Memory, Name, Place};
@@ -24,12 +25,7 @@ pub(crate) fn second<'a>(alloc: Global, names: &'a [Name]) -> Result<Option<&'a 
     ensures { IfOk result (λ name. option_map (λ n. n.now) name ≡ repeats.second [] names.now) }
 {
     let mut before = NameSet::new(alloc);
-    for name in names {
-        if !put_name(&mut before, name)? {
-            return Ok(Some(name));
-        }
-    }
-    Ok(None)
+    first_again(&mut before, names)
 }
 
 /// Puts a name into the set, and tells whether it was there or is a size.
@@ -94,15 +90,8 @@ pub(crate) fn repeated_variable<'a>(
         ≡ repeats.repeated_variable sizes.now (map (λ d. d.now) variables.now)) }
 {
     let mut before = set_of(alloc, sizes)?;
-    for variable in variables {
-        if !put_name(&mut before, &variable.name)? {
-            return Ok(Some(Found {
-                name: &variable.name,
-                place: variable.place,
-            }));
-        }
-    }
-    Ok(None)
+    let twice = first_again(&mut before, variables)?;
+    Ok(declaration_found(twice))
 }
 
 /// An index name stands once in its list, and is no size.

@@ -15,25 +15,13 @@ ghost use Rattle.av_names.specs.Written.{written_at, all_written};
 use crate::found::{Found, sooner};
 use crate::in_reach::{found_where, unknown_in_constraints, unknown_in_domain, unknown_inside};
 use crate::index::{by_name, context};
-use crate::name_sets::{is_among, put_name, set_of};
+use crate::name_sets::{is_among, names_of, set_of};
 use crate::part::Part;
 use crate::rule::{Rule, TryRule, first_of, try_first_of};
 use av_base::Memory;
 use av_table::{NameMap, NameSet};
 use av_tree::{Declaration, DomainText, Equation, Expr, System};
 use std::alloc::Global;
-
-/// The names of the variables.
-fn variable_names<'a>(alloc: Global, variables: &[&'a Declaration]) -> Result<NameSet<'a>, Memory>
-    ensures { IfOk result (λ set.
-        SameNames set (rules.declared_as (map (λ d. d.now) variables.now))) }
-{
-    let mut set = NameSet::new(alloc);
-    for variable in variables {
-        put_name(&mut set, &variable.name)?;
-    }
-    Ok(set)
-}
 
 /// An equation or a reference has the name of a variable.
 #[derive(Clone, Copy)]
@@ -180,7 +168,7 @@ pub(crate) fn unknown<'a>(
     ensures { IfOk result (λ first.
         option_map found first ≡ rules.unknown (view_system system.now)) }
 {
-    let known = variable_names(alloc, variables)?;
+    let known = names_of(alloc, variables)?;
     let rule = VariableRule { variables: &known };
     let equation = first_of(&rule, system.equations.as_slice());
     let reference = first_of(&rule, parts);
