@@ -1,22 +1,21 @@
 -- Names of variables, equations and parts, list by list.
-use Rattle.std.proofs.Common.{◌≡◌, ℕ, ◌+◌, ◌<◌, ◌||◌, length, get_or, drop, List, [], ◌∷◌, ◌++◌, map, Option, Some, Bool, false, if◌then◌else◌, option_map, refl, ap, sym, ◌∙◌, Bor}
-use Rattle.std.specs.Prelude.{filter_map, find, not, bytes_eq}
+use Rattle.std.proofs.Common.{◌≡◌, List, [], ◌∷◌, ◌++◌, map, Option, Bool, option_map, refl, ap, sym, ◌∙◌, Bor}
+use Rattle.std.specs.Prelude.{filter_map, find, not}
 use Rattle.std.proofs.Math.Path.{fun_ext}
 use Rattle.av_tree.specs.declared.system.Declaration.{Declaration}
 use Rattle.av_tree.specs.declared.system.Equation.{Equation as EquationMade}
-use Rattle.av_tree.specs.Trees.{Text, System, Equation, view_equation, view_equations}
+use Rattle.av_tree.specs.Trees.{Text, System, view_equation, view_equations}
 use Rattle.av_tree.specs.Domains.{variables}
 use Rattle.av_names.specs.declared.part.Part.{Part as PartMade}
 use Rattle.av_names.specs.Found.{Found, sooner, first_found}
 use Rattle.av_names.specs.inner.AtOption.{at_option}
 use Rattle.av_tree.specs.Rows.{is_index}
-use Rattle.av_names.specs.Equations.{equation_found, declaration_found, second_equation}
+use Rattle.av_names.specs.Equations.{equation_found, declaration_found}
 use Rattle.av_names.specs.Parts.{parts}
 use Rattle.av_names.specs.Repetitions.{NameList, repeated, repeated_size, repeated_variable, repeated_index, of_declaration, of_equation, of_part}
 use Rattle.av_names.specs.inner.Seen.{part, SameNames, equations_seen}
 use Rattle.av_names.proofs.Sooner.{first_append, first_map, first_filter_map}
 use Rattle.av_names.proofs.Repeats.{again_same}
-use Rattle.av_base.proofs.Lists.{next_item}
 
 pub equations_are : (es : List EquationMade) → view_equations es ≡ equations_seen es
 equations_are [] = refl

@@ -1,6 +1,5 @@
 -- Unknown names and numbers of nodes, list by list.
-use Rattle.std.proofs.Common.{◌≡◌, ◌≤◌, ℕ, List, [], ◌∷◌, ◌++◌, map, length, take, take_all, Option, false, not, option_map, refl, ap, sym, ◌∙◌, arith, Bor}
-use Rattle.std.proofs.lemmas.List.{length-map}
+use Rattle.std.proofs.Common.{◌≡◌, List, [], ◌∷◌, ◌++◌, map, length, Option, false, not, option_map, refl, ap, sym, ◌∙◌, Bor}
 use Rattle.std.specs.Prelude.{find, bytes_eq, filter_map}
 use Rattle.std.specs.List.{flat_map}
 use Rattle.std.proofs.Math.Path.{fun_ext}

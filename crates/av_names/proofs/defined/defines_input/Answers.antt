@@ -1,4 +1,4 @@
-use Rattle.std.proofs.Common.{ap, sym, ◌∙◌}
+use Rattle.std.proofs.Common.{ap, ◌∙◌}
 use Rattle.std.specs.Prelude.{option_map, find}
 use Rattle.av_tree.specs.Rows.{is_index}
 use Rattle.av_tree.specs.Trees.{view_equation}

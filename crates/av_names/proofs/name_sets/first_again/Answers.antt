@@ -1,4 +1,3 @@
-use Rattle.std.proofs.Common.{ap, ◌∙◌}
 use Rattle.av_tree.specs.Rows.{is_index}
 use Rattle.av_names.proofs.Repeats.{again_later, was_new}
 use Rattle.av_names.proofs.name_sets.first_again.Goals as goal

@@ -1,5 +1,5 @@
 use Rattle.std.proofs.Common.{◌≡◌, drop}
-use Rattle.std.specs.Prelude.{find, not}
+use Rattle.std.specs.Prelude.{find}
 use Rattle.av_tree.specs.Rows.{is_index}
 use Rattle.av_names.proofs.name_sets.first_among.Given as goal
 

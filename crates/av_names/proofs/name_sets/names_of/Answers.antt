@@ -1,5 +1,3 @@
-use Rattle.std.proofs.Common.{◌∷◌, ap, ◌∙◌}
-use Rattle.av_tree.specs.Rows.{is_index}
 use Rattle.av_names.proofs.Repeats.{one_more_of}
 use Rattle.av_names.proofs.name_sets.names_of.Goals as goal
 
