@@ -1,6 +1,5 @@
 use Rattle.std.proofs.Common.{ap, length}
 use Rattle.av_affine.specs.declared.rows.Rows.{Rows}
-use Rattle.av_affine.specs.declared.map.Map.{Map}
 use Rattle.av_names.proofs.affine.affine_map.Goals as goal
 
 pub returns : goal.returns
