@@ -1,22 +1,21 @@
 -- Names of variables, equations and parts, list by list.
-use Rattle.std.proofs.Common.{◌≡◌, ℕ, ◌+◌, ◌<◌, ◌||◌, length, get_or, drop, List, [], ◌∷◌, ◌++◌, map, Option, Some, Bool, false, if◌then◌else◌, option_map, refl, ap, sym, ◌∙◌, Bor}
-use Rattle.std.specs.Prelude.{filter_map, find, not, bytes_eq}
+use Rattle.std.proofs.Common.{◌≡◌, List, [], ◌∷◌, ◌++◌, map, Option, Bool, option_map, refl, ap, sym, ◌∙◌, Bor}
+use Rattle.std.specs.Prelude.{filter_map, find, not}
 use Rattle.std.proofs.Math.Path.{fun_ext}
 use Rattle.av_tree.specs.declared.system.Declaration.{Declaration}
 use Rattle.av_tree.specs.declared.system.Equation.{Equation as EquationMade}
-use Rattle.av_tree.specs.Trees.{Text, System, Equation, view_equation, view_equations}
+use Rattle.av_tree.specs.Trees.{Text, System, view_equation, view_equations}
 use Rattle.av_tree.specs.Domains.{variables}
 use Rattle.av_names.specs.declared.part.Part.{Part as PartMade}
 use Rattle.av_names.specs.Found.{Found, sooner, first_found}
 use Rattle.av_names.specs.inner.AtOption.{at_option}
 use Rattle.av_tree.specs.Rows.{is_index}
-use Rattle.av_names.specs.Equations.{equation_found, declaration_found, second_equation}
+use Rattle.av_names.specs.Equations.{equation_found, declaration_found}
 use Rattle.av_names.specs.Parts.{parts}
 use Rattle.av_names.specs.Repetitions.{NameList, repeated, repeated_size, repeated_variable, repeated_index, of_declaration, of_equation, of_part}
 use Rattle.av_names.specs.inner.Seen.{part, SameNames, equations_seen}
 use Rattle.av_names.proofs.Sooner.{first_append, first_map, first_filter_map}
 use Rattle.av_names.proofs.Repeats.{again_same}
-use Rattle.av_base.proofs.Lists.{next_item}
 
 pub equations_are : (es : List EquationMade) → view_equations es ≡ equations_seen es
 equations_are [] = refl
@@ -82,20 +81,3 @@ no_equation_found set es ds computed same eq =
     ap (option_map declaration_found) (find_same (λ d. not (is_index set d.name)) (λ d. not (is_index names d.name)) ds
     (λ d. ap not (same d.name ∙ ap (λ ns. is_index ns d.name) (names_are es)))
     ∙ ap (find (λ d. not (is_index names d.name))) eq)
-
-equation_same : (a b : List Text) (es : List Equation) → SameNames a b → second_equation a es ≡ second_equation b es
-equation_same a b [] same = refl
-equation_same a b (e ∷ es) same =
-    ap (λ t. if t then Some (equation_found e) else second_equation (e.name ∷ a) es) (same e.name)
-    ∙ ap (λ r. if is_index b e.name then Some (equation_found e) else r)
-    (equation_same (e.name ∷ a) (e.name ∷ b) es (λ name. ap (λ t. bytes_eq e.name name || t) (same name)))
-
--- an equation whose name is none of those before it
-pub equation_more : (start set set' : List Text) (xs : List EquationMade) (i : ℕ) (x : EquationMade) → i < length xs → x ≡ get_or xs i x → SameNames set' (x.name ∷ set)
-    → is_index set x.name ≡ false → second_equation start (equations_seen xs) ≡ second_equation set (equations_seen (drop i xs))
-    → second_equation start (equations_seen xs) ≡ second_equation set' (equations_seen (drop (i + 1) xs))
-equation_more start set set' xs i x lt at more other so_far =
-    let rest : List Equation = equations_seen (drop (i + 1) xs) in
-    so_far ∙ ap (λ es. second_equation set (equations_seen es)) (next_item xs i x lt at)
-    ∙ ap (λ t. if t then Some (equation_found (view_equation x)) else second_equation (x.name ∷ set) rest) other
-    ∙ equation_same (x.name ∷ set) set' rest (λ name. sym (more name))

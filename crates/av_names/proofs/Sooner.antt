@@ -1,5 +1,5 @@
 -- The first of two things, and of many.
-use Rattle.std.proofs.Common.{◌≡◌, ◌⊎◌, ℕ, ◌+◌, ◌<◌, ◌≤◌, take_all, List, [], ◌∷◌, ◌++◌, map, length, get_or, take, take-suc, add-one, Option, Some, None, Bool, true, false, ◌&&◌, ◌||◌, refl, ap, sym, ◌∙◌, inl, inr, arith}
+use Rattle.std.proofs.Common.{◌≡◌, ◌⊎◌, ℕ, ◌+◌, ◌<◌, List, [], ◌∷◌, ◌++◌, map, length, get_or, take, take-suc, add-one, Option, Some, None, Bool, true, false, ◌&&◌, ◌||◌, refl, ap, sym, ◌∙◌, inl, inr, arith}
 use Rattle.std.specs.Prelude.{nat_lt, nat_eq, filter_map}
 use Rattle.std.specs.List.{cons_option}
 use Rattle.std.proofs.lemmas.Bool.{ltb-true, lt-ltb}
@@ -123,14 +123,9 @@ sooner_nothing at None = refl
 sooner_nothing at (Some w) = refl
 
 -- one more object
-pub first_more : {A B : Type 0} (at : A → Place) (rule : B → Option A) (xs : List B) (i : ℕ) (x : B) (best next : Option A) → i < length xs → x ≡ get_or xs i x
-    → best ≡ first_of at rule (take i xs) → next ≡ sooner at best (rule x) → next ≡ first_of at rule (take (i + 1) xs)
-first_more at rule xs i x best next lt here before now =
+pub first_more : {A B : Type 0} (at : A → Place) (rule : B → Option A) (xs : List B) (i : ℕ) (x : B) (best found next : Option A) → i < length xs → x ≡ get_or xs i x
+    → best ≡ first_of at rule (take i xs) → found ≡ rule x → next ≡ sooner at best found → next ≡ first_of at rule (take (i + 1) xs)
+first_more at rule xs i x best found next lt here before is now =
     let split : take (i + 1) xs ≡ take i xs ++ x ∷ [] = rw (add-one, take-suc xs i x lt, sym here) refl in
-    now ∙ ap (λ b. sooner at b (rule x)) before ∙ ap (λ r. sooner at (first_of at rule (take i xs)) r) (sym (sooner_nothing at (rule x)))
+    now ∙ ap (sooner at best) is ∙ ap (λ b. sooner at b (rule x)) before ∙ ap (λ r. sooner at (first_of at rule (take i xs)) r) (sym (sooner_nothing at (rule x)))
     ∙ sym (first_append at rule (take i xs) (x ∷ [])) ∙ ap (first_of at rule) (sym split)
-
--- all objects
-pub first_whole : {A B : Type 0} (at : A → Place) (rule : B → Option A) (xs : List B) (i : ℕ) (best : Option A) → length xs ≤ i → best ≡ first_of at rule (take i xs)
-    → best ≡ first_of at rule xs
-first_whole at rule xs i best past so_far = so_far ∙ ap (first_of at rule) (take_all i xs past)

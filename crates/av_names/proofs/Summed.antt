@@ -79,16 +79,6 @@ greatest_of_rows sizes names a b relation.Unequal ne = absurd (ne refl)
 
 -- ---- numbers above a limit
 
-pub index_exceeds : (m : Measure) (sizes : Sizes) (names : List Text) (e : IndexExpr) (n limit : ℕ) → n ≡ (of_index m sizes names e).number
-    → exceeds limit (record { number = n; place = e.place }) ≡ exceeds limit (of_index m sizes names e)
-index_exceeds measure.Coefficient sizes names e n limit h = ap (λ k. exceeds limit (record { number = k; place = e.place })) h
-index_exceeds measure.Constant sizes names e n limit h = ap (λ k. exceeds limit (record { number = k; place = e.place })) h
-
-pub row_exceeds : (m : Measure) (sizes : Sizes) (names : List Text) (c : Constraint) (n limit : ℕ) → n ≡ (of_row m sizes names c).number
-    → exceeds limit (record { number = n; place = c.left.place }) ≡ exceeds limit (of_row m sizes names c)
-row_exceeds measure.Coefficient sizes names c n limit h = ap (λ k. exceeds limit (record { number = k; place = c.left.place })) h
-row_exceeds measure.Constant sizes names c n limit h = ap (λ k. exceeds limit (record { number = k; place = c.left.place })) h
-
 pub written_exceeds : (m : Measure) (sizes : Sizes) (w : Written) (limit : ℕ) (x y : Option Counted)
     → x ≡ first_of (λ c. c.place) (λ e. exceeds limit (of_index m sizes w.names e)) w.indices
     → y ≡ first_of (λ c. c.place) (λ c. exceeds limit (of_row m sizes w.names c)) w.constraints

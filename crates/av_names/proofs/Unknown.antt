@@ -1,6 +1,5 @@
 -- Unknown names and numbers of nodes, list by list.
-use Rattle.std.proofs.Common.{◌≡◌, ◌≤◌, ℕ, List, [], ◌∷◌, ◌++◌, map, length, take, take_all, Option, false, not, option_map, refl, ap, sym, ◌∙◌, arith, Bor}
-use Rattle.std.proofs.lemmas.List.{length-map}
+use Rattle.std.proofs.Common.{◌≡◌, List, [], ◌∷◌, ◌++◌, map, length, Option, false, not, option_map, refl, ap, sym, ◌∙◌, Bor}
 use Rattle.std.specs.Prelude.{find, bytes_eq, filter_map}
 use Rattle.std.specs.List.{flat_map}
 use Rattle.std.proofs.Math.Path.{fun_ext}
@@ -26,12 +25,9 @@ use Rattle.av_names.proofs.Sooner.{first_append, first_map, first_filter_map}
 
 -- ---- the names of the variables
 
-pub names_all : (vs : List (Bor Declaration)) (i : ℕ) → length vs ≤ i → take i (map (λ d. d.now.name) vs) ≡ declared_as (map (λ d. d.now) vs)
-names_all vs i past = take_all i (map (λ d. d.now.name) vs) (omega (arith, length-map vs (λ d. d.now.name), past)) ∙ fused vs
-  where
-    fused : (vs : List (Bor Declaration)) → map (λ d. d.now.name) vs ≡ declared_as (map (λ d. d.now) vs)
-    fused [] = refl
-    fused (v ∷ vs) = ap (λ names. v.now.name ∷ names) (fused vs)
+pub names_all : (vs : List (Bor Declaration)) → map (λ d. d.now.name) vs ≡ declared_as (map (λ d. d.now) vs)
+names_all [] = refl
+names_all (v ∷ vs) = ap (λ names. v.now.name ∷ names) (names_all vs)
 
 -- ---- the equations, with what was looked up
 

@@ -5,3 +5,4 @@ pub mod Building
 pub mod ShortSums
 pub mod AtOption
 pub mod Repeating
+pub mod FirstAgain

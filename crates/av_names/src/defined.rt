@@ -1,53 +1,45 @@
 //! Which variable has an equation.
 
-ghost use Rattle.std.specs.Prelude.{◌≡◌, ◌++◌, [], map, not, find, IfOk, option_map};
+ghost use Rattle.std.specs.Prelude.{◌≡◌, ◌++◌, [], not, find, IfOk, option_map};
 ghost use Rattle.av_tree.specs.Rows.{is_index};
-ghost use Rattle.av_tree.specs.Trees.{view_system};
-ghost use Rattle.av_names.specs.Unknowns.{declared_as};
+ghost use Rattle.av_tree.specs.Trees.{view_equation, view_system};
 ghost use Rattle.av_names.specs.Equations as rules;
-ghost use Rattle.av_names.specs.inner.Seen.{found, SameNames, equations_seen};
+ghost use Rattle.av_names.specs.inner.Seen.{found, equations_seen};
 
 use crate::found::Found;
-use crate::name_sets::{is_among, put_name};
+use crate::name_sets::{first_again, first_among, first_outside, names_of};
 use crate::tables::computed_variables;
 use av_base::Memory;
 use av_table::NameSet;
 use av_tree::{Declaration, Equation, System};
 use std::alloc::Global;
 
-/// The first equation whose name is in the set.
-pub(crate) fn defines_one_of<'a>(set: &NameSet<'_>, equations: &'a [Equation]) -> Option<Found<'a>>
-    ensures { option_map found result ≡ option_map rules.equation_found
-        (find (λ e. is_index set.now e.name) (equations_seen equations.now)) }
+/// The name and the place of the equation.
+fn equation_found(equation: Option<&Equation>) -> Option<Found<'_>>
+    ensures { option_map found result
+        ≡ option_map (λ e. rules.equation_found (view_equation e.now)) equation.entry }
 {
-    for equation in equations {
-        if is_among(set, &equation.name) {
-            return Some(Found {
-                name: &equation.name,
-                place: equation.place,
-            });
-        }
+    match equation {
+        Some(equation) => Some(Found {
+            name: &equation.name,
+            place: equation.place,
+        }),
+        None => None,
     }
-    None
 }
 
-/// The first declaration whose name is not in the set.
-pub(crate) fn without_equation<'a>(
-    set: &NameSet<'_>,
-    variables: &[&'a Declaration],
-) -> Option<Found<'a>>
-    ensures { option_map found result ≡ option_map rules.declaration_found
-        (find (λ d. not (is_index set.now d.name)) (map (λ d. d.now) variables.now)) }
+/// The name and the place of the variable's declaration.
+pub(crate) fn declaration_found<'a>(variable: Option<&&'a Declaration>) -> Option<Found<'a>>
+    ensures { option_map found result
+        ≡ option_map (λ d. rules.declaration_found d.now.now) variable.entry }
 {
-    for variable in variables {
-        if !is_among(set, &variable.name) {
-            return Some(Found {
-                name: &variable.name,
-                place: variable.place,
-            });
-        }
+    match variable {
+        Some(variable) => Some(Found {
+            name: &variable.name,
+            place: variable.place,
+        }),
+        None => None,
     }
-    None
 }
 
 /// The first equation of an input.
@@ -58,8 +50,9 @@ pub(crate) fn defines_input<'a>(
     ensures { IfOk result (λ first.
         option_map found first ≡ rules.defines_input (view_system system.now)) }
 {
-    let inputs = declared(alloc, system.inputs.as_slice())?;
-    Ok(defines_one_of(&inputs, system.equations.as_slice()))
+    let inputs = names_of(alloc, system.inputs.as_slice())?;
+    let first = first_among(&inputs, system.equations.as_slice());
+    Ok(equation_found(first))
 }
 
 /// The first output or local without an equation.
@@ -70,7 +63,7 @@ pub(crate) fn no_equation<'a>(
     ensures { IfOk result (λ first.
         option_map found first ≡ rules.no_equation (view_system system.now)) }
 {
-    let names = defined(alloc, system.equations.as_slice())?;
+    let names = names_of(alloc, system.equations.as_slice())?;
     computed_without(alloc, &names, system)
 }
 
@@ -84,29 +77,8 @@ fn computed_without<'a>(
         (find (λ d. not (is_index names.now d.name)) (system.now.outputs ++ system.now.locals))) }
 {
     let computed = computed_variables(alloc, system)?;
-    Ok(without_equation(names, computed.as_slice()))
-}
-
-/// The names of the declarations.
-fn declared<'a>(alloc: Global, declarations: &'a [Declaration]) -> Result<NameSet<'a>, Memory>
-    ensures { IfOk result (λ set. SameNames set (declared_as declarations.now)) }
-{
-    let mut set = NameSet::new(alloc);
-    for declaration in declarations {
-        put_name(&mut set, &declaration.name)?;
-    }
-    Ok(set)
-}
-
-/// The names of the equations.
-fn defined<'a>(alloc: Global, equations: &'a [Equation]) -> Result<NameSet<'a>, Memory>
-    ensures { IfOk result (λ set. SameNames set (map (λ e. e.name) equations.now)) }
-{
-    let mut set = NameSet::new(alloc);
-    for equation in equations {
-        put_name(&mut set, &equation.name)?;
-    }
-    Ok(set)
+    let first = first_outside(names, computed.as_slice());
+    Ok(declaration_found(first))
 }
 
 /// The first equation whose variable has one already.
@@ -118,24 +90,6 @@ pub(crate) fn second_equation<'a>(
         option_map found first ≡ rules.second_equation [] (equations_seen equations.now)) }
 {
     let mut before = NameSet::new(alloc);
-    equation_again(&mut before, equations)
-}
-
-/// The first equation whose variable is in the set, or has one already.
-fn equation_again<'a>(
-    before: &mut NameSet<'a>,
-    equations: &'a [Equation],
-) -> Result<Option<Found<'a>>, Memory>
-    ensures { IfOk result (λ first.
-        option_map found first ≡ rules.second_equation before.old (equations_seen equations.now)) }
-{
-    for equation in equations {
-        if !put_name(before, &equation.name)? {
-            return Ok(Some(Found {
-                name: &equation.name,
-                place: equation.place,
-            }));
-        }
-    }
-    Ok(None)
+    let twice = first_again(&mut before, equations)?;
+    Ok(equation_found(twice))
 }

@@ -1,10 +1,23 @@
 //! Which of the things that are found stands first in the text.
 
 ghost use Rattle.std.specs.Prelude.{◌≡◌, option_map};
+ghost use Rattle.av_base.specs.declared.place.Place.{Place as PlaceMade};
 ghost use Rattle.av_names.specs.Found as first;
-ghost use Rattle.av_names.specs.inner.Seen.{found};
 
 use av_base::{Name, Place};
+
+/// Something with a place in the text, by which the first of several is chosen.
+pub(crate) trait HasPlace: Copy {
+    /// What definitions see of it.
+    ghost Value: { Type 0 };
+
+    ghost value: { Self → Value };
+
+    ghost place_of: { Value → PlaceMade };
+
+    fn place(&self) -> Place
+        ensures { result ≡ place_of (value self.now) };
+}
 
 /// A name with the place that a fault tells of it.
 #[derive(Clone, Copy)]
@@ -13,38 +26,54 @@ pub(crate) struct Found<'a> {
     pub(crate) place: Place,
 }
 
+impl HasPlace for Found<'_> {
+    ghost use Rattle.av_names.specs.Found.{Found as FoundSeen};
+    ghost use Rattle.av_names.specs.inner.Seen.{found};
+
+    ghost Value = { FoundSeen };
+
+    ghost value = { found };
+
+    ghost place_of = { λ f. f.place };
+
+    fn place(&self) -> Place {
+        self.place
+    }
+}
+
+impl HasPlace for Place {
+    ghost Value = { PlaceMade };
+
+    ghost value = { λ place. place };
+
+    ghost place_of = { λ place. place };
+
+    fn place(&self) -> Place {
+        *self
+    }
+}
+
 /// Whether the first place comes before the second.
-pub(crate) fn is_before(left: Place, right: Place) -> bool
+fn is_before(left: Place, right: Place) -> bool
     ensures { result ≡ first.is_before left right }
 {
     left.line < right.line || (left.line == right.line && left.column < right.column)
 }
 
 /// The one that stands first; the left one of two at one place.
-pub(crate) fn sooner<'a>(left: Option<Found<'a>>, right: Option<Found<'a>>) -> Option<Found<'a>>
-    ensures { option_map found result
-        ≡ first.sooner (λ f. f.place) (option_map found left.entry) (option_map found right.entry) }
+pub(crate) fn sooner<P: HasPlace>(left: Option<P>, right: Option<P>) -> Option<P>
+    ensures { option_map P.value result
+        ≡ first.sooner P.place_of (option_map P.value left) (option_map P.value right) }
 {
     match (left, right) {
         (None, _) => right,
         (_, None) => left,
         (Some(a), Some(b)) => {
-            if is_before(b.place, a.place) {
+            if is_before(b.place(), a.place()) {
                 Some(b)
             } else {
                 Some(a)
             }
         }
-    }
-}
-
-/// The place that comes first.
-pub(crate) fn sooner_place(left: Option<Place>, right: Option<Place>) -> Option<Place>
-    ensures { result ≡ first.sooner (λ place. place) left right }
-{
-    match (left, right) {
-        (None, _) => right,
-        (_, None) => left,
-        (Some(a), Some(b)) => { if is_before(b, a) { Some(b) } else { Some(a) } }
     }
 }

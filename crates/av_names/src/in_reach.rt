@@ -12,6 +12,7 @@ ghost use Rattle.av_names.specs.Written.{behind, written_at};
 
 use crate::found::{Found, sooner};
 use crate::name_sets::{is_among, set_of};
+use crate::rule::{Rule, first_of};
 use av_base::{Memory, Name, Place};
 use av_table::NameSet;
 use av_tree::{Access, Constraint, DomainText, Expr, IndexExpr, MapText, Term};
@@ -28,34 +29,47 @@ pub(crate) fn found_where(test: bool, name: &Name, place: Place) -> Option<Found
     }
 }
 
-fn unknown_term<'a>(sizes: &NameSet<'_>, names: &NameSet<'_>, term: &'a Term) -> Option<Found<'a>>
-    ensures { option_map found result ≡ rules.unknown_term sizes.now names.now term.now }
-{
-    match &term.name {
-        None => None,
-        Some(name) => {
-            let unknown = !is_among(names, name) && !is_among(sizes, name);
-            found_where(unknown, name, term.place)
+/// An index expression names nothing but indices in reach and sizes.
+#[derive(Clone, Copy)]
+struct ReachRule<'a> {
+    sizes: &'a NameSet<'a>,
+    names: &'a NameSet<'a>,
+}
+
+impl<'a> Rule<'a, Term, Found<'a>> for ReachRule<'_> {
+    ghost gives = { λ rule term fault.
+        option_map found fault ≡ rules.unknown_term rule.sizes.now rule.names.now term };
+
+    fn fault(&self, term: &'a Term) -> Option<Found<'a>> {
+        match &term.name {
+            None => None,
+            Some(name) => {
+                let unknown = !is_among(self.names, name) && !is_among(self.sizes, name);
+                found_where(unknown, name, term.place)
+            }
         }
     }
 }
 
-fn unknown_in_terms<'a>(
-    sizes: &NameSet<'_>,
-    names: &NameSet<'_>,
-    terms: &'a [Term],
-) -> Option<Found<'a>>
-    ensures { option_map found result
-        ≡ first_found (rules.unknown_term sizes.now names.now) terms.now }
-{
-    let mut first = None;
-    for term in terms {
-        let next = unknown_term(sizes, names, term);
-        first = sooner(first, next);
+impl<'a> Rule<'a, IndexExpr, Found<'a>> for ReachRule<'_> {
+    ghost gives = { λ rule entry fault.
+        option_map found fault ≡ rules.unknown_index rule.sizes.now rule.names.now entry };
+
+    fn fault(&self, entry: &'a IndexExpr) -> Option<Found<'a>> {
+        first_of(self, entry.terms.as_slice())
     }
-    first
 }
 
+impl<'a> Rule<'a, Constraint, Found<'a>> for ReachRule<'_> {
+    ghost gives = { λ rule constraint fault.
+        option_map found fault ≡ rules.unknown_side rule.sizes.now rule.names.now constraint };
+
+    fn fault(&self, constraint: &'a Constraint) -> Option<Found<'a>> {
+        sooner(self.fault(&constraint.left), self.fault(&constraint.right))
+    }
+}
+
+/// The first name in the index expressions that is in neither set.
 fn unknown_in_indices<'a>(
     sizes: &NameSet<'_>,
     names: &NameSet<'_>,
@@ -64,24 +78,7 @@ fn unknown_in_indices<'a>(
     ensures { option_map found result
         ≡ first_found (rules.unknown_index sizes.now names.now) entries.now }
 {
-    let mut first = None;
-    for entry in entries {
-        let next = unknown_in_terms(sizes, names, entry.terms.as_slice());
-        first = sooner(first, next);
-    }
-    first
-}
-
-fn unknown_side<'a>(
-    sizes: &NameSet<'_>,
-    names: &NameSet<'_>,
-    constraint: &'a Constraint,
-) -> Option<Found<'a>>
-    ensures { option_map found result ≡ rules.unknown_side sizes.now names.now constraint.now }
-{
-    let left = unknown_in_terms(sizes, names, constraint.left.terms.as_slice());
-    let right = unknown_in_terms(sizes, names, constraint.right.terms.as_slice());
-    sooner(left, right)
+    first_of(&ReachRule { sizes, names }, entries)
 }
 
 /// The first name in the comparisons that is in neither set.
@@ -93,12 +90,7 @@ pub(crate) fn unknown_in_constraints<'a>(
     ensures { option_map found result
         ≡ first_found (rules.unknown_side sizes.now names.now) constraints.now }
 {
-    let mut first = None;
-    for constraint in constraints {
-        let next = unknown_side(sizes, names, constraint);
-        first = sooner(first, next);
-    }
-    first
+    first_of(&ReachRule { sizes, names }, constraints)
 }
 
 /// In the results of a map its own names are in reach.

@@ -6,7 +6,6 @@ ghost use Rattle.av_tree.specs.Rows as rows;
 ghost use Rattle.av_tree.specs.Points.{Sizes};
 ghost use Rattle.av_tree.specs.Trees.{System as Spelled, view_system};
 ghost use Rattle.av_names.specs.Found as finds;
-ghost use Rattle.av_names.specs.Found.{first_of};
 ghost use Rattle.av_names.specs.Parts as list;
 ghost use Rattle.av_names.specs.Quantities as rules;
 ghost use Rattle.av_names.specs.inner.Seen.{part};
@@ -18,8 +17,9 @@ ghost use Rattle.av_names.specs.inner.ShortSums.{AreShort, HasShortTerms, HasSho
 ghost use Rattle.av_names.specs.Written.{all_written};
 
 use crate::Size;
-use crate::found::is_before;
+use crate::found::{HasPlace, sooner};
 use crate::part::Part;
+use crate::rule::{Rule, first_of};
 use crate::size_table::size_table;
 use crate::sums::{coefficient, coefficient_between, constant, constant_between};
 use crate::written::{Written, written_all};
@@ -43,30 +43,26 @@ pub(crate) struct Counted {
     pub(crate) place: Place,
 }
 
+impl HasPlace for Counted {
+    ghost use Rattle.av_names.specs.Quantities.{Counted as CountedSeen};
+
+    ghost Value = { CountedSeen };
+
+    ghost value = { seen.counted };
+
+    ghost place_of = { λ c. c.place };
+
+    fn place(&self) -> Place {
+        self.place
+    }
+}
+
 fn limit(measure: Measure) -> u128
     ensures { result ≡ limit_of measure }
 {
     match measure {
         Measure::Coefficient => MOST_COEFFICIENT as u128,
         Measure::Constant => MOST_CONSTANT as u128,
-    }
-}
-
-/// The one that stands first; the left one of two at one place.
-pub(crate) fn sooner(left: Option<Counted>, right: Option<Counted>) -> Option<Counted>
-    ensures { option_map seen.counted result ≡ finds.sooner
-        (λ c. c.place) (option_map seen.counted left) (option_map seen.counted right) }
-{
-    match (left, right) {
-        (None, _) => right,
-        (_, None) => left,
-        (Some(a), Some(b)) => {
-            if is_before(b.place, a.place) {
-                Some(b)
-            } else {
-                Some(a)
-            }
-        }
     }
 }
 
@@ -174,62 +170,66 @@ fn row_number(
     }
 }
 
-/// The first of the index expressions whose number is above the limit.
-fn great_index(
+/// No number of an index expression or a comparison over these names is above the limit.
+#[derive(Clone, Copy)]
+struct OverNamesRule<'a> {
     measure: Measure,
-    sizes: &NameMap<'_, i64>,
-    names: &[Name],
-    entries: &[IndexExpr],
-) -> Option<Counted>
-    requires short { All HasShortTerms entries.now }
-    requires sizes { HasSmallValues (sizes_in sizes.now) }
-    ensures { option_map seen.counted result ≡ first_of (λ c. c.place) (λ e. rules.exceeds
-        (limit_of measure) (seen.of_index measure (sizes_in sizes.now) names.now e)) entries.now }
-{
-    let mut first = None;
-    for entry in entries {
-        let number = index_number(measure, sizes, names, entry);
-        let next = exceeding(measure, number, entry.place);
-        first = sooner(first, next);
-    }
-    first
+    sizes: &'a NameMap<'a, i64>,
+    names: &'a [Name],
 }
 
-/// The first of the comparisons with a row whose number is above the limit.
-fn great_row(
-    measure: Measure,
-    sizes: &NameMap<'_, i64>,
-    names: &[Name],
-    constraints: &[Constraint],
-) -> Option<Counted>
-    requires short { All HasShortSides constraints.now }
-    requires sizes { HasSmallValues (sizes_in sizes.now) }
-    ensures { option_map seen.counted result ≡ first_of (λ c. c.place) (λ e. rules.exceeds
-        (limit_of measure) (seen.of_row measure (sizes_in sizes.now) names.now e)) constraints.now }
-{
-    let mut first = None;
-    for constraint in constraints {
-        let number = row_number(measure, sizes, names, constraint);
-        let next = exceeding(measure, number, constraint.left.place);
-        first = sooner(first, next);
+impl Rule<'_, IndexExpr, Counted> for OverNamesRule<'_> {
+    ghost takes = { λ rule entry. HasShortTerms entry × HasSmallValues (sizes_in rule.sizes.now) };
+
+    ghost gives = { λ rule entry fault. option_map seen.counted fault
+        ≡ rules.exceeds (limit_of rule.measure)
+        (seen.of_index rule.measure (sizes_in rule.sizes.now) rule.names.now entry) };
+
+    fn fault(&self, entry: &IndexExpr) -> Option<Counted> {
+        let number = index_number(self.measure, self.sizes, self.names, entry);
+        exceeding(self.measure, number, entry.place)
     }
-    first
 }
 
-fn great_written(
+impl Rule<'_, Constraint, Counted> for OverNamesRule<'_> {
+    ghost takes = { λ rule constraint.
+        HasShortSides constraint × HasSmallValues (sizes_in rule.sizes.now) };
+
+    ghost gives = { λ rule constraint fault. option_map seen.counted fault
+        ≡ rules.exceeds (limit_of rule.measure)
+        (seen.of_row rule.measure (sizes_in rule.sizes.now) rule.names.now constraint) };
+
+    fn fault(&self, constraint: &Constraint) -> Option<Counted> {
+        let number = row_number(self.measure, self.sizes, self.names, constraint);
+        exceeding(self.measure, number, constraint.left.place)
+    }
+}
+
+/// No number of what is written at a place of the text is above the limit.
+#[derive(Clone, Copy)]
+struct NumberRule<'a> {
     measure: Measure,
-    sizes: &NameMap<'_, i64>,
-    written: Written<'_>,
-) -> Option<Counted>
-    requires short { IsShortWritten (seen.written written) }
-    requires sizes { HasSmallValues (sizes_in sizes.now) }
-    ensures { option_map seen.counted result
-        ≡ first_of (λ c. c.place) (rules.exceeds (limit_of measure))
-        (seen.numbers_of measure (sizes_in sizes.now) (seen.written written.entry)) }
-{
-    let index = great_index(measure, sizes, written.names, written.indices);
-    let row = great_row(measure, sizes, written.names, written.constraints);
-    sooner(index, row)
+    sizes: &'a NameMap<'a, i64>,
+}
+
+impl Rule<'_, Written<'_>, Counted> for NumberRule<'_> {
+    ghost takes = { λ rule written.
+        IsShortWritten (seen.written written) × HasSmallValues (sizes_in rule.sizes.now) };
+
+    ghost gives = { λ rule written fault. option_map seen.counted fault
+        ≡ finds.first_of (λ c. c.place) (rules.exceeds (limit_of rule.measure))
+        (seen.numbers_of rule.measure (sizes_in rule.sizes.now) (seen.written written)) };
+
+    fn fault(&self, written: &Written<'_>) -> Option<Counted> {
+        let rule = OverNamesRule {
+            measure: self.measure,
+            sizes: self.sizes,
+            names: written.names,
+        };
+        let index = first_of(&rule, written.indices);
+        let row = first_of(&rule, written.constraints);
+        sooner(index, row)
+    }
 }
 
 /// The greatest number of the first object of the text that is above the limit.
@@ -239,12 +239,7 @@ fn great(measure: Measure, sizes: &NameMap<'_, i64>, all: &[Written<'_>]) -> Opt
     ensures { (s : Spelled) → map seen.written all.now ≡ all_written s
         → result ≡ seen.great measure s (sizes_in sizes.now) }
 {
-    let mut first = None;
-    for written in all {
-        let next = great_written(measure, sizes, *written);
-        first = sooner(first, next);
-    }
-    number_of(first)
+    number_of(first_of(&NumberRule { measure, sizes }, all))
 }
 
 /// The number alone.

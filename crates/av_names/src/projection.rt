@@ -1,14 +1,14 @@
 //! Maps of reductions that are no projections.
 
 ghost use Rattle.std.specs.Prelude.{◌≡◌, [], map, IfOk, option_map};
-ghost use Rattle.av_tree.specs.Trees.{System, view};
+ghost use Rattle.av_tree.specs.Trees.{System};
 ghost use Rattle.av_names.specs.Parts as list;
 ghost use Rattle.av_names.specs.Reductions as rules;
 ghost use Rattle.av_names.specs.inner.Seen.{part};
 
-use crate::found::sooner_place;
 use crate::name_sets::{is_among, put_name, set_of};
 use crate::part::Part;
+use crate::rule::{TryRule, try_first_of};
 use av_base::{Memory, Name, Place};
 use av_table::NameSet;
 use av_tree::{Expr, IndexExpr, MapText, Term};
@@ -19,26 +19,29 @@ pub(crate) fn projection(alloc: Global, parts: &[Part<'_>]) -> Result<Option<Pla
     ensures { IfOk result (λ first. (s : System)
         → map part parts.now ≡ list.parts s → first ≡ rules.projection s) }
 {
-    let mut first = None;
-    for part in parts {
-        let next = projection_at(alloc, part.expr)?;
-        first = sooner_place(first, next);
-    }
-    Ok(first)
+    try_first_of(&ProjectionRule { alloc }, parts)
 }
 
-fn projection_at(alloc: Global, expr: &Expr) -> Result<Option<Place>, Memory>
-    ensures { IfOk result (λ place. place ≡ rules.expression_projection (view expr.now)) }
-{
-    match expr {
-        Expr::Reduce { map, .. } => {
-            if is_projection(alloc, map)? {
-                Ok(None)
-            } else {
-                Ok(Some(map.place))
+/// A reduction's map gives all its names but one, each once and plain.
+#[derive(Clone, Copy)]
+struct ProjectionRule {
+    alloc: Global,
+}
+
+impl TryRule<'_, Part<'_>, Place> for ProjectionRule {
+    ghost gives = { λ _ at place. place ≡ rules.part_projection (part at) };
+
+    fn try_fault(&self, at: &Part<'_>) -> Result<Option<Place>, Memory> {
+        match at.expr {
+            Expr::Reduce { map, .. } => {
+                if is_projection(self.alloc, map)? {
+                    Ok(None)
+                } else {
+                    Ok(Some(map.place))
+                }
             }
+            _ => Ok(None),
         }
-        _ => Ok(None),
     }
 }
 

@@ -4,17 +4,19 @@ ghost use Rattle.std.specs.Prelude.{◌≡◌, Some, map, length, bytes_eq, opti
 ghost use Rattle.std.specs.List.{flat_map};
 ghost use Rattle.std.specs.Map.{lookup};
 ghost use Rattle.av_tree.specs.Domains as domains;
-ghost use Rattle.av_tree.specs.Trees.{view, view_equation, view_system};
-ghost use Rattle.av_names.specs.Found.{first_of};
+ghost use Rattle.av_tree.specs.Trees.{view_equation, view_system};
+ghost use Rattle.av_names.specs.Found as finds;
 ghost use Rattle.av_names.specs.inner.AtOption.{at_option};
 ghost use Rattle.av_names.specs.Parts as list;
 ghost use Rattle.av_names.specs.Quantities as rules;
 ghost use Rattle.av_names.specs.inner.Seen.{part, parts_by};
 ghost use Rattle.av_names.specs.inner.Sums.{counted};
 
+use crate::found::sooner;
 use crate::index::{by_name, context};
-use crate::measure::{Counted, number_of, sooner};
+use crate::measure::{Counted, number_of};
 use crate::part::{Context, Part, gather};
+use crate::rule::{Rule, TryRule, first_of, try_first_of};
 use av_base::limits::{MOST_INDICES, MOST_NODES, MOST_VARIABLES};
 use av_base::{Memory, Place};
 use av_table::NameMap;
@@ -48,86 +50,64 @@ fn exceeds(limit: usize, length: usize, place: Place) -> Option<Counted>
     }
 }
 
-/// The first declared domain with too many indices.
-fn indices_of_variables(variables: &[&Declaration]) -> Option<Counted>
-    ensures { option_map counted result ≡ first_of
-        (λ c. c.place) (λ d. rules.exceeds 4 (rules.of_declaration d.now)) variables.now }
-{
-    let mut first = None;
-    for variable in variables {
-        let domain = &variable.domain;
-        let next = exceeds(MOST_INDICES, domain.names.as_slice().len(), domain.place);
-        first = sooner(first, next);
-    }
-    first
-}
-
-fn indices_of_equation(equation: &Equation) -> Option<Counted>
-    ensures { option_map counted result
-        ≡ at_option (rules.exceeds 4) (rules.of_equation (view_equation equation.now)) }
-{
-    match &equation.indices {
-        None => None,
-        Some(names) => exceeds(MOST_INDICES, names.as_slice().len(), equation.place),
-    }
-}
-
-/// The first equation with too many indices.
-fn indices_of_equations(equations: &[Equation]) -> Option<Counted>
-    ensures { option_map counted result ≡ first_of (λ c. c.place)
-        (λ e. at_option (rules.exceeds 4) (rules.of_equation (view_equation e))) equations.now }
-{
-    let mut first = None;
-    for equation in equations {
-        let next = indices_of_equation(equation);
-        first = sooner(first, next);
-    }
-    first
-}
-
 /// The names of a map before its results.
 fn indices_of_map(map: &MapText) -> Option<Counted>
     ensures { option_map counted result
-        ≡ first_of (λ c. c.place) (rules.exceeds 4) (rules.of_map (Some map.now)) }
+        ≡ finds.first_of (λ c. c.place) (rules.exceeds 4) (rules.of_map (Some map.now)) }
 {
     let names = exceeds(MOST_INDICES, map.names.as_slice().len(), map.place);
     let results = exceeds(MOST_INDICES, map.results.as_slice().len(), map.place);
     sooner(names, results)
 }
 
-fn indices_of_expression(expr: &Expr) -> Option<Counted>
-    ensures { option_map counted result
-        ≡ first_of (λ c. c.place) (rules.exceeds 4) (rules.of_expression (view expr.now)) }
-{
-    match expr {
-        Expr::Restrict { domain, .. } => {
-            exceeds(MOST_INDICES, domain.names.as_slice().len(), domain.place)
-        }
-        Expr::Ref {
-            at: Access::Mapped(map),
-            ..
-        }
-        | Expr::Const {
-            at: Access::Mapped(map),
-            ..
-        }
-        | Expr::Depend { map, .. }
-        | Expr::Reduce { map, .. } => indices_of_map(map),
-        _ => None,
+/// No list of index expressions or index names is longer than the limit of 4.
+#[derive(Clone, Copy)]
+struct IndexCountRule;
+
+impl Rule<'_, &Declaration, Counted> for IndexCountRule {
+    ghost gives = { λ _ variable fault. option_map counted fault
+        ≡ rules.exceeds 4 (rules.of_declaration variable.now) };
+
+    fn fault(&self, variable: &&Declaration) -> Option<Counted> {
+        let domain = &variable.domain;
+        exceeds(MOST_INDICES, domain.names.as_slice().len(), domain.place)
     }
 }
 
-/// The first restriction or map with too many indices.
-fn indices_of_parts(parts: &[Part<'_>]) -> Option<Counted>
-    ensures { option_map counted result ≡ first_of (λ c. c.place)
-        (λ p. first_of (λ c. c.place) (rules.exceeds 4) (rules.of_part (part p))) parts.now }
-{
-    let mut first = None;
-    for part in parts {
-        let next = indices_of_expression(part.expr);
-        first = sooner(first, next);
+impl Rule<'_, Equation, Counted> for IndexCountRule {
+    ghost gives = { λ _ equation fault. option_map counted fault
+        ≡ at_option (rules.exceeds 4) (rules.of_equation (view_equation equation)) };
+
+    fn fault(&self, equation: &Equation) -> Option<Counted> {
+        match &equation.indices {
+            None => None,
+            Some(names) => exceeds(MOST_INDICES, names.as_slice().len(), equation.place),
+        }
     }
-    first
+}
+
+impl Rule<'_, Part<'_>, Counted> for IndexCountRule {
+    ghost gives = { λ _ at fault. option_map counted fault
+        ≡ finds.first_of (λ c. c.place) (rules.exceeds 4) (rules.of_part (part at)) };
+
+    fn fault(&self, at: &Part<'_>) -> Option<Counted> {
+        match at.expr {
+            Expr::Restrict { domain, .. } => {
+                exceeds(MOST_INDICES, domain.names.as_slice().len(), domain.place)
+            }
+            Expr::Ref {
+                at: Access::Mapped(map),
+                ..
+            }
+            | Expr::Const {
+                at: Access::Mapped(map),
+                ..
+            }
+            | Expr::Depend { map, .. }
+            | Expr::Reduce { map, .. } => indices_of_map(map),
+            _ => None,
+        }
+    }
 }
 
 /// The first number of indices that is above the limit of 4.
@@ -141,46 +121,32 @@ pub(crate) fn too_many_indices(
     requires parts { map part parts.now ≡ list.parts (view_system system.now) }
     ensures { result ≡ rules.too_many_indices (view_system system.now) }
 {
-    let domain = indices_of_variables(variables);
-    let equation = indices_of_equations(system.equations.as_slice());
-    let part = indices_of_parts(parts);
+    let domain = first_of(&IndexCountRule, variables);
+    let equation = first_of(&IndexCountRule, system.equations.as_slice());
+    let part = first_of(&IndexCountRule, parts);
     number_of(sooner(sooner(domain, equation), part))
 }
 
-/// The nodes of an equation, which are the parts of its right side.
-fn nodes_of(
+/// The right side of an equation has no more nodes, which are its parts, than the limit of 4096.
+#[derive(Clone, Copy)]
+struct NodeCountRule<'r, 'a> {
     alloc: Global,
-    table: &NameMap<'_, &Declaration>,
-    equation: &Equation,
-) -> Result<usize, Memory>
-    ensures { IfOk result (λ nodes.
-        nodes ≡ length (parts_by (lookup (bytes_eq equation.now.name) table.now) equation.now)) }
-{
-    let mut parts = Vec::new(alloc);
-    let names = context(table, equation);
-    gather(&mut parts, Context::over(names), false, &equation.right)?;
-    Ok(parts.len())
+    table: &'r NameMap<'a, &'a Declaration>,
 }
 
-/// The first equation with too many nodes.
-fn nodes_of_equations(
-    alloc: Global,
-    table: &NameMap<'_, &Declaration>,
-    equations: &[Equation],
-) -> Result<Option<Counted>, Memory>
-    ensures { IfOk result (λ first. option_map counted first
-        ≡ first_of (λ c. c.place) (λ e. rules.exceeds 4096 (record {
-          number = length (parts_by (lookup (bytes_eq e.name) table.now) e);
-          place = e.place;
-        })) equations.now) }
-{
-    let mut first = None;
-    for equation in equations {
-        let nodes = nodes_of(alloc, table, equation)?;
-        let next = exceeds(MOST_NODES, nodes, equation.place);
-        first = sooner(first, next);
+impl TryRule<'_, Equation, Counted> for NodeCountRule<'_, '_> {
+    ghost gives = { λ rule equation fault. option_map counted fault
+        ≡ rules.exceeds 4096 (record {
+          number = length (parts_by (lookup (bytes_eq equation.name) rule.table.now) equation);
+          place = equation.place;
+        }) };
+
+    fn try_fault(&self, equation: &Equation) -> Result<Option<Counted>, Memory> {
+        let mut parts = Vec::new(self.alloc);
+        let names = context(self.table, equation);
+        gather(&mut parts, Context::over(names), false, &equation.right)?;
+        Ok(exceeds(MOST_NODES, parts.len(), equation.place))
     }
-    Ok(first)
 }
 
 /// The first number of nodes of an equation that is above the limit of 4096.
@@ -193,6 +159,10 @@ pub(crate) fn too_many_nodes(
     ensures { IfOk result (λ number. number ≡ rules.too_many_nodes (view_system system.now)) }
 {
     let table = by_name(alloc, variables)?;
-    let first = nodes_of_equations(alloc, &table, system.equations.as_slice())?;
+    let rule = NodeCountRule {
+        alloc,
+        table: &table,
+    };
+    let first = try_first_of(&rule, system.equations.as_slice())?;
     Ok(number_of(first))
 }

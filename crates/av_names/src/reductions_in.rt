@@ -6,8 +6,8 @@ ghost use Rattle.av_names.specs.Parts as list;
 ghost use Rattle.av_names.specs.Reductions as rules;
 ghost use Rattle.av_names.specs.inner.Seen.{part};
 
-use crate::found::sooner_place;
 use crate::part::Part;
+use crate::rule::{Rule, first_of};
 use av_base::Place;
 use av_tree::Expr;
 
@@ -15,20 +15,21 @@ use av_tree::Expr;
 pub(crate) fn case_in_reduce(parts: &[Part<'_>]) -> Option<Place>
     ensures { (s : System) → map part parts.now ≡ list.parts s → result ≡ rules.case_in_reduce s }
 {
-    let mut first = None;
-    for part in parts {
-        let next = case_at(part.reduced, part.expr);
-        first = sooner_place(first, next);
-    }
-    first
+    first_of(&CaseRule, parts)
 }
 
-fn case_at(reduced: bool, expr: &Expr) -> Option<Place>
-    ensures { result ≡ rules.case_at reduced (view expr.now) }
-{
-    match expr {
-        Expr::Case { place, .. } if reduced => Some(*place),
-        _ => None,
+/// No case stands in a reduction's body.
+#[derive(Clone, Copy)]
+struct CaseRule;
+
+impl Rule<'_, Part<'_>, Place> for CaseRule {
+    ghost gives = { λ _ at fault. fault ≡ rules.part_case (part at) };
+
+    fn fault(&self, at: &Part<'_>) -> Option<Place> {
+        match at.expr {
+            Expr::Case { place, .. } if at.reduced => Some(*place),
+            _ => None,
+        }
     }
 }
 
@@ -36,26 +37,21 @@ fn case_at(reduced: bool, expr: &Expr) -> Option<Place>
 pub(crate) fn depend_on_reduce(parts: &[Part<'_>]) -> Option<Place>
     ensures { (s : System) → map part parts.now ≡ list.parts s → result ≡ rules.depend_on_reduce s }
 {
-    let mut first = None;
-    for part in parts {
-        let next = dependence_at(part.expr);
-        first = sooner_place(first, next);
-    }
-    first
+    first_of(&DependenceRule, parts)
 }
 
-fn dependence_at(expr: &Expr) -> Option<Place>
-    ensures { result ≡ rules.dependence_at (view expr.now) }
-{
-    match expr {
-        Expr::Depend { map, body, .. } => {
-            if holds_reduction(body) {
-                Some(map.place)
-            } else {
-                None
-            }
+/// No expression under a dependence holds a reduction.
+#[derive(Clone, Copy)]
+struct DependenceRule;
+
+impl Rule<'_, Part<'_>, Place> for DependenceRule {
+    ghost gives = { λ _ at fault. fault ≡ rules.part_dependence (part at) };
+
+    fn fault(&self, at: &Part<'_>) -> Option<Place> {
+        match at.expr {
+            Expr::Depend { map, body, .. } if holds_reduction(body) => Some(map.place),
+            _ => None,
         }
-        _ => None,
     }
 }
 

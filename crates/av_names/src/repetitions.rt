@@ -3,16 +3,18 @@
 ghost use Rattle.std.specs.Prelude.{◌≡◌, ◌||◌, [], ◌∷◌, map, IfOk, OnOk, option_map};
 ghost use Rattle.av_tree.specs.Domains as domains;
 ghost use Rattle.av_tree.specs.Rows.{is_index};
-ghost use Rattle.av_tree.specs.Trees.{view, view_equation, view_system};
+ghost use Rattle.av_tree.specs.Trees.{view_equation, view_system};
 ghost use Rattle.av_names.specs.inner.AtOption.{at_option};
 ghost use Rattle.av_names.specs.Parts as list;
 ghost use Rattle.av_names.specs.Repetitions as repeats;
-ghost use Rattle.av_names.specs.inner.Repeating.{repeated_in_variables, repeated_in_equations, repeated_in_parts, repeated_in_lists};
+ghost use Rattle.av_names.specs.inner.Repeating.{repeated_in_lists};
 ghost use Rattle.av_names.specs.inner.Seen.{found, part, SameNames};
 
+use crate::defined::declaration_found;
 use crate::found::{Found, sooner};
-use crate::name_sets::{is_among, put_name, set_of};
+use crate::name_sets::{first_again, is_among, put_name, set_of};
 use crate::part::Part;
+use crate::rule::{TryRule, try_first_of};
 use av_base::{Memory, Name, Place};
 use av_table::NameSet;
 use av_tree::{Access, Declaration, DomainText, Equation, Expr, System};
@@ -23,12 +25,7 @@ pub(crate) fn second<'a>(alloc: Global, names: &'a [Name]) -> Result<Option<&'a 
     ensures { IfOk result (λ name. option_map (λ n. n.now) name ≡ repeats.second [] names.now) }
 {
     let mut before = NameSet::new(alloc);
-    for name in names {
-        if !put_name(&mut before, name)? {
-            return Ok(Some(name));
-        }
-    }
-    Ok(None)
+    first_again(&mut before, names)
 }
 
 /// Puts a name into the set, and tells whether it was there or is a size.
@@ -93,108 +90,66 @@ pub(crate) fn repeated_variable<'a>(
         ≡ repeats.repeated_variable sizes.now (map (λ d. d.now) variables.now)) }
 {
     let mut before = set_of(alloc, sizes)?;
-    for variable in variables {
-        if !put_name(&mut before, &variable.name)? {
-            return Ok(Some(Found {
-                name: &variable.name,
-                place: variable.place,
-            }));
-        }
-    }
-    Ok(None)
+    let twice = first_again(&mut before, variables)?;
+    Ok(declaration_found(twice))
 }
 
-/// An index name of a declared domain.
-fn in_variables<'a>(
+/// An index name stands once in its list, and is no size.
+#[derive(Clone, Copy)]
+struct RepetitionRule<'r, 'a> {
     alloc: Global,
-    sizes: &NameSet<'_>,
-    variables: &[&'a Declaration],
-) -> Result<Option<Found<'a>>, Memory>
-    ensures { IfOk result (λ first.
-        option_map found first ≡ repeated_in_variables sizes.now variables.now) }
-{
-    let mut first = None;
-    for variable in variables {
+    sizes: &'r NameSet<'a>,
+}
+
+impl<'a> TryRule<'_, &'a Declaration, Found<'a>> for RepetitionRule<'_, '_> {
+    ghost gives = { λ rule variable fault. option_map found fault
+        ≡ repeats.repeated_index rule.sizes.now (repeats.of_declaration variable.now) };
+
+    fn try_fault(&self, variable: &&'a Declaration) -> Result<Option<Found<'a>>, Memory> {
         let domain = &variable.domain;
-        let next = repeated_index(alloc, sizes, domain.names.as_slice(), domain.place)?;
-        first = sooner(first, next);
-    }
-    Ok(first)
-}
-
-/// An index name of an equation.
-fn in_equations<'a>(
-    alloc: Global,
-    sizes: &NameSet<'_>,
-    equations: &'a [Equation],
-) -> Result<Option<Found<'a>>, Memory>
-    ensures { IfOk result (λ first.
-        option_map found first ≡ repeated_in_equations sizes.now equations.now) }
-{
-    let mut first = None;
-    for equation in equations {
-        let next = in_equation(alloc, sizes, equation)?;
-        first = sooner(first, next);
-    }
-    Ok(first)
-}
-
-fn in_equation<'a>(
-    alloc: Global,
-    sizes: &NameSet<'_>,
-    equation: &'a Equation,
-) -> Result<Option<Found<'a>>, Memory>
-    ensures { IfOk result (λ first. option_map found first ≡ at_option
-        (repeats.repeated_index sizes.now) (repeats.of_equation (view_equation equation.now))) }
-{
-    match &equation.indices {
-        None => Ok(None),
-        Some(names) => repeated_index(alloc, sizes, names.as_slice(), equation.place),
+        let names = domain.names.as_slice();
+        repeated_index(self.alloc, self.sizes, names, domain.place)
     }
 }
 
-/// An index name of a restriction or a map.
-fn in_parts<'a>(
-    alloc: Global,
-    sizes: &NameSet<'_>,
-    parts: &[Part<'a>],
-) -> Result<Option<Found<'a>>, Memory>
-    ensures { IfOk result (λ first.
-        option_map found first ≡ repeated_in_parts sizes.now parts.now) }
-{
-    let mut first = None;
-    for part in parts {
-        let next = in_part(alloc, sizes, part.expr)?;
-        first = sooner(first, next);
+impl<'a> TryRule<'a, Equation, Found<'a>> for RepetitionRule<'_, '_> {
+    ghost gives = { λ rule equation fault. option_map found fault ≡ at_option
+        (repeats.repeated_index rule.sizes.now) (repeats.of_equation (view_equation equation)) };
+
+    fn try_fault(&self, equation: &'a Equation) -> Result<Option<Found<'a>>, Memory> {
+        match &equation.indices {
+            None => Ok(None),
+            Some(names) => {
+                repeated_index(self.alloc, self.sizes, names.as_slice(), equation.place)
+            }
+        }
     }
-    Ok(first)
 }
 
-fn in_part<'a>(
-    alloc: Global,
-    sizes: &NameSet<'_>,
-    expr: &'a Expr,
-) -> Result<Option<Found<'a>>, Memory>
-    ensures { IfOk result (λ first. option_map found first
-        ≡ at_option (repeats.repeated_index sizes.now) (repeats.of_expression (view expr.now))) }
-{
-    match expr {
-        Expr::Restrict { domain, .. } => {
-            repeated_index(alloc, sizes, domain.names.as_slice(), domain.place)
+impl<'a> TryRule<'_, Part<'a>, Found<'a>> for RepetitionRule<'_, '_> {
+    ghost gives = { λ rule at fault. option_map found fault
+        ≡ at_option (repeats.repeated_index rule.sizes.now) (repeats.of_part (part at)) };
+
+    fn try_fault(&self, at: &Part<'a>) -> Result<Option<Found<'a>>, Memory> {
+        match at.expr {
+            Expr::Restrict { domain, .. } => {
+                let names = domain.names.as_slice();
+                repeated_index(self.alloc, self.sizes, names, domain.place)
+            }
+            Expr::Ref {
+                at: Access::Mapped(map),
+                ..
+            }
+            | Expr::Const {
+                at: Access::Mapped(map),
+                ..
+            }
+            | Expr::Depend { map, .. }
+            | Expr::Reduce { map, .. } => {
+                repeated_index(self.alloc, self.sizes, map.names.as_slice(), map.place)
+            }
+            _ => Ok(None),
         }
-        Expr::Ref {
-            at: Access::Mapped(map),
-            ..
-        }
-        | Expr::Const {
-            at: Access::Mapped(map),
-            ..
-        }
-        | Expr::Depend { map, .. }
-        | Expr::Reduce { map, .. } => {
-            repeated_index(alloc, sizes, map.names.as_slice(), map.place)
-        }
-        _ => Ok(None),
     }
 }
 
@@ -209,9 +164,10 @@ fn in_lists<'a>(
     ensures { IfOk result (λ first. option_map found first
         ≡ repeated_in_lists sizes.now variables.now equations.now parts.now) }
 {
-    let domain = in_variables(alloc, sizes, variables)?;
-    let equation = in_equations(alloc, sizes, equations)?;
-    let part = in_parts(alloc, sizes, parts)?;
+    let rule = RepetitionRule { alloc, sizes };
+    let domain = try_first_of(&rule, variables)?;
+    let equation = try_first_of(&rule, equations)?;
+    let part = try_first_of(&rule, parts)?;
     Ok(sooner(sooner(domain, equation), part))
 }
 

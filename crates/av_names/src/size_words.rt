@@ -1,61 +1,47 @@
 //! The sizes that are given, against those that the system names.
 
-ghost use Rattle.std.specs.Prelude.{◌≡◌, [], map, not, find, IfOk, option_map};
-ghost use Rattle.av_tree.specs.Rows.{is_index};
-ghost use Rattle.av_names.specs.inner.Seen.{SameNames};
+ghost use Rattle.std.specs.Prelude.{◌≡◌, IfOk, option_map};
+ghost use Rattle.av_tree.specs.Trees.{view_system};
 ghost use Rattle.av_names.specs.SizeWords as words;
 
 use crate::Size;
-use crate::name_sets::{is_among, put_name};
+use crate::name_sets::{first_again, first_outside, names_of, set_of};
 use av_base::{Memory, Name};
 use av_table::NameSet;
+use av_tree::System;
 use std::alloc::Global;
 
 /// The first size whose name an earlier one has.
-pub(crate) fn size_twice<'a>(alloc: Global, sizes: &'a [Size]) -> Result<Option<&'a Name>, Memory>
-    ensures { IfOk result (λ name. option_map (λ n. n.now) name ≡ words.size_twice sizes.now) }
+pub(crate) fn size_twice<'a>(alloc: Global, sizes: &'a [Size]) -> Result<Option<&'a Size>, Memory>
+    ensures { IfOk result (λ size.
+        option_map (λ s. s.now.name) size ≡ words.size_twice sizes.now) }
 {
     let mut before = NameSet::new(alloc);
-    for size in sizes {
-        if !put_name(&mut before, &size.name)? {
-            return Ok(Some(&size.name));
-        }
-    }
-    Ok(None)
+    first_again(&mut before, sizes)
 }
 
-/// The names of the sizes that are given.
-pub(crate) fn given<'a>(alloc: Global, sizes: &'a [Size]) -> Result<NameSet<'a>, Memory>
-    ensures { IfOk result (λ set. SameNames set (words.names_of sizes.now)) }
+/// The first size that the system does not name.
+pub(crate) fn size_unknown<'a>(
+    alloc: Global,
+    system: &System,
+    sizes: &'a [Size],
+) -> Result<Option<&'a Size>, Memory>
+    ensures { IfOk result (λ size. option_map (λ s. s.now.name) size
+        ≡ words.size_unknown (view_system system.now) sizes.now) }
 {
-    let mut set = NameSet::new(alloc);
-    for size in sizes {
-        put_name(&mut set, &size.name)?;
-    }
-    Ok(set)
+    let named = set_of(alloc, system.sizes.names.as_slice())?;
+    Ok(first_outside(&named, sizes))
 }
 
-/// The first size that the set does not have.
-pub(crate) fn size_unknown<'a>(named: &NameSet<'_>, sizes: &'a [Size]) -> Option<&'a Name>
-    ensures { option_map (λ n. n.now) result
-        ≡ find (λ n. not (is_index named.now n)) (words.names_of sizes.now) }
+/// The first size of the system that is not given.
+pub(crate) fn size_missing<'a>(
+    alloc: Global,
+    system: &'a System,
+    sizes: &[Size],
+) -> Result<Option<&'a Name>, Memory>
+    ensures { IfOk result (λ name. option_map (λ n. n.now) name
+        ≡ words.size_missing (view_system system.now) sizes.now) }
 {
-    for size in sizes {
-        if !is_among(named, &size.name) {
-            return Some(&size.name);
-        }
-    }
-    None
-}
-
-/// The first name that the set does not have.
-pub(crate) fn first_outside<'a>(set: &NameSet<'_>, names: &'a [Name]) -> Option<&'a Name>
-    ensures { option_map (λ n. n.now) result ≡ find (λ n. not (is_index set.now n)) names.now }
-{
-    for name in names {
-        if !is_among(set, name) {
-            return Some(name);
-        }
-    }
-    None
+    let given = names_of(alloc, sizes)?;
+    Ok(first_outside(&given, system.sizes.names.as_slice()))
 }

@@ -15,110 +15,78 @@ ghost use Rattle.av_names.specs.Written.{written_at, all_written};
 use crate::found::{Found, sooner};
 use crate::in_reach::{found_where, unknown_in_constraints, unknown_in_domain, unknown_inside};
 use crate::index::{by_name, context};
-use crate::name_sets::{is_among, put_name, set_of};
+use crate::name_sets::{is_among, names_of, set_of};
 use crate::part::Part;
+use crate::rule::{Rule, TryRule, first_of, try_first_of};
 use av_base::Memory;
 use av_table::{NameMap, NameSet};
 use av_tree::{Declaration, DomainText, Equation, Expr, System};
 use std::alloc::Global;
 
-/// The names of the variables.
-fn variable_names<'a>(alloc: Global, variables: &[&'a Declaration]) -> Result<NameSet<'a>, Memory>
-    ensures { IfOk result (λ set.
-        SameNames set (rules.declared_as (map (λ d. d.now) variables.now))) }
-{
-    let mut set = NameSet::new(alloc);
-    for variable in variables {
-        put_name(&mut set, &variable.name)?;
-    }
-    Ok(set)
+/// An equation or a reference has the name of a variable.
+#[derive(Clone, Copy)]
+struct VariableRule<'r, 'a> {
+    variables: &'r NameSet<'a>,
 }
 
-/// The first equation of another name than these.
-fn unknown_in_equations<'a>(variables: &NameSet<'_>, equations: &'a [Equation]) -> Option<Found<'a>>
-    ensures { option_map found result ≡ first_found (λ e.
-        finds.found_where (not (is_index variables.now e.name)) e.name e.place) equations.now }
-{
-    let mut first = None;
-    for equation in equations {
-        let unknown = !is_among(variables, &equation.name);
-        let next = found_where(unknown, &equation.name, equation.place);
-        first = sooner(first, next);
-    }
-    first
-}
+impl<'a> Rule<'a, Equation, Found<'a>> for VariableRule<'_, '_> {
+    ghost gives = { λ rule equation fault. option_map found fault ≡ finds.found_where
+        (not (is_index rule.variables.now equation.name)) equation.name equation.place };
 
-fn unknown_reference<'a>(variables: &NameSet<'_>, expr: &'a Expr) -> Option<Found<'a>>
-    ensures { option_map found result ≡ rules.unknown_variable variables.now (view expr.now) }
-{
-    match expr {
-        Expr::Ref { name, place, .. } => found_where(!is_among(variables, name), name, *place),
-        _ => None,
+    fn fault(&self, equation: &'a Equation) -> Option<Found<'a>> {
+        let unknown = !is_among(self.variables, &equation.name);
+        found_where(unknown, &equation.name, equation.place)
     }
 }
 
-/// The first reference of another name than these.
-fn unknown_in_references<'a>(variables: &NameSet<'_>, parts: &[Part<'a>]) -> Option<Found<'a>>
-    ensures { option_map found result
-        ≡ first_found (λ p. rules.unknown_variable variables.now (part p).expression) parts.now }
-{
-    let mut first = None;
-    for part in parts {
-        let next = unknown_reference(variables, part.expr);
-        first = sooner(first, next);
+impl<'a> Rule<'_, Part<'a>, Found<'a>> for VariableRule<'_, '_> {
+    ghost gives = { λ rule at fault. option_map found fault
+        ≡ rules.unknown_variable rule.variables.now (part at).expression };
+
+    fn fault(&self, at: &Part<'a>) -> Option<Found<'a>> {
+        match at.expr {
+            Expr::Ref { name, place, .. } => {
+                found_where(!is_among(self.variables, name), name, *place)
+            }
+            _ => None,
+        }
     }
-    first
 }
 
-/// In the declared domains.
-fn unknown_in_declarations<'a>(
+/// The index expressions of a declared domain name nothing but its indices and sizes.
+#[derive(Clone, Copy)]
+struct DomainRule<'r, 'a> {
     alloc: Global,
-    sizes: &NameSet<'_>,
-    variables: &[&'a Declaration],
-) -> Result<Option<Found<'a>>, Memory>
-    ensures { IfOk result (λ first. option_map found first ≡ first_found (λ d. first_found
-        (rules.unknown_side sizes.now d.now.domain.names) d.now.domain.constraints) variables.now) }
-{
-    let mut first = None;
-    for variable in variables {
-        let next = unknown_in_domain(alloc, sizes, &variable.domain)?;
-        first = sooner(first, next);
-    }
-    Ok(first)
+    sizes: &'r NameSet<'a>,
 }
 
-/// In the right side of an equation.
-fn unknown_in_right<'a>(
-    alloc: Global,
-    sizes: &NameSet<'_>,
-    table: &NameMap<'_, &Declaration>,
-    equation: &'a Equation,
-) -> Result<Option<Found<'a>>, Memory>
-    ensures { IfOk result (λ first.
-        option_map found first ≡ first_found (λ p. rules.unknown_written sizes.now (written_at p))
-        (parts_by (lookup (bytes_eq equation.now.name) table.now) equation.now)) }
-{
-    let names = set_of(alloc, context(table, equation))?;
-    unknown_inside(alloc, sizes, &names, &equation.right)
+impl<'a> TryRule<'_, &'a Declaration, Found<'a>> for DomainRule<'_, '_> {
+    ghost gives = { λ rule variable fault. option_map found fault ≡ first_found
+        (rules.unknown_side rule.sizes.now variable.now.domain.names)
+        variable.now.domain.constraints };
+
+    fn try_fault(&self, variable: &&'a Declaration) -> Result<Option<Found<'a>>, Memory> {
+        unknown_in_domain(self.alloc, self.sizes, &variable.domain)
+    }
 }
 
-/// In the right sides of all equations.
-fn unknown_in_rights<'a>(
+/// The index expressions of an equation's right side name nothing but indices in reach and sizes.
+#[derive(Clone, Copy)]
+struct RightSideRule<'r, 'a> {
     alloc: Global,
-    sizes: &NameSet<'_>,
-    table: &NameMap<'_, &Declaration>,
-    equations: &'a [Equation],
-) -> Result<Option<Found<'a>>, Memory>
-    ensures { IfOk result (λ first. option_map found first
-        ≡ first_found (λ e. first_found (λ p. rules.unknown_written sizes.now (written_at p))
-        (parts_by (lookup (bytes_eq e.name) table.now) e)) equations.now) }
-{
-    let mut first = None;
-    for equation in equations {
-        let next = unknown_in_right(alloc, sizes, table, equation)?;
-        first = sooner(first, next);
+    sizes: &'r NameSet<'a>,
+    table: &'r NameMap<'a, &'a Declaration>,
+}
+
+impl<'a> TryRule<'a, Equation, Found<'a>> for RightSideRule<'_, '_> {
+    ghost gives = { λ rule equation fault. option_map found fault
+        ≡ first_found (λ p. rules.unknown_written rule.sizes.now (written_at p))
+        (parts_by (lookup (bytes_eq equation.name) rule.table.now) equation) };
+
+    fn try_fault(&self, equation: &'a Equation) -> Result<Option<Found<'a>>, Memory> {
+        let names = set_of(self.alloc, context(self.table, equation))?;
+        unknown_inside(self.alloc, self.sizes, &names, &equation.right)
     }
-    Ok(first)
 }
 
 /// In the constraints of the parameter domain, where no index is in reach.
@@ -146,7 +114,12 @@ fn unknown_in_parts<'a>(
         (rules.unknown_written sizes.now) (map written_at (list.parts (view_system system.now)))) }
 {
     let table = by_name(alloc, variables)?;
-    unknown_in_rights(alloc, sizes, &table, system.equations.as_slice())
+    let rule = RightSideRule {
+        alloc,
+        sizes,
+        table: &table,
+    };
+    try_first_of(&rule, system.equations.as_slice())
 }
 
 /// The first name in index expressions that is neither an index in reach nor among these sizes.
@@ -163,7 +136,7 @@ fn unknown_index_among<'a>(
         (rules.unknown_written system.now.sizes.names) (all_written (view_system system.now))) }
 {
     let outer = unknown_in_sizes(alloc, sizes, &system.sizes);
-    let domain = unknown_in_declarations(alloc, sizes, variables)?;
+    let domain = try_first_of(&DomainRule { alloc, sizes }, variables)?;
     let right = unknown_in_parts(alloc, sizes, system, variables)?;
     Ok(sooner(outer, sooner(domain, right)))
 }
@@ -195,9 +168,10 @@ pub(crate) fn unknown<'a>(
     ensures { IfOk result (λ first.
         option_map found first ≡ rules.unknown (view_system system.now)) }
 {
-    let known = variable_names(alloc, variables)?;
-    let equation = unknown_in_equations(&known, system.equations.as_slice());
-    let reference = unknown_in_references(&known, parts);
+    let known = names_of(alloc, variables)?;
+    let rule = VariableRule { variables: &known };
+    let equation = first_of(&rule, system.equations.as_slice());
+    let reference = first_of(&rule, parts);
     let index = unknown_index(alloc, system, variables)?;
     Ok(sooner(equation, sooner(reference, index)))
 }

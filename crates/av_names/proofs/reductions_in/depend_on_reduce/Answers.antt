@@ -1,16 +1,12 @@
 use Rattle.std.proofs.Common.{ap, sym, ◌∙◌}
-use Rattle.av_names.specs.Found.{sooner, first_place}
-use Rattle.av_names.specs.Reductions as rules
+use Rattle.std.proofs.lemmas.Iterator.Adapters.{option_map_id}
+use Rattle.av_names.specs.Found.{first_place}
+use Rattle.av_names.specs.Reductions.{part_dependence}
 use Rattle.av_names.specs.inner.Seen.{part}
-use Rattle.av_names.proofs.Sooner.{first_more, first_map, first_whole}
+use Rattle.av_names.proofs.Sooner.{first_map}
 use Rattle.av_names.proofs.reductions_in.depend_on_reduce.Goals as goal
-
-pub loop-part-preserved : goal.loop-part-preserved
-loop-part-preserved c =
-    first_more (λ place. place) (λ p. rules.part_dependence (part p)) c.args.parts.now c.loop-part.part-index c.part-item.result c.loop-part.first c.sooner_place-first.result
-    c.loop-part-test.true c.part-item.is c.loop-part.invariant (c.sooner_place-first.ensures ∙ ap (sooner (λ place. place) c.loop-part.first) c.dependence_at-next.ensures)
 
 pub returns : goal.returns
 returns c s parts_are =
-    first_whole (λ place. place) (λ p. rules.part_dependence (part p)) c.args.parts.now c.loop-part.part-index c.loop-part.first c.loop-part-test.false c.loop-part.invariant
-    ∙ sym (first_map (λ place. place) rules.part_dependence part c.args.parts.now) ∙ ap (first_place rules.part_dependence) parts_are
+    sym (option_map_id c.first_of.result) ∙ c.first_of.ensures (λ p. part_dependence (part p)) (λ p fault is. option_map_id fault ∙ is)
+    ∙ sym (first_map (λ place. place) part_dependence part c.args.parts.now) ∙ ap (first_place part_dependence) parts_are

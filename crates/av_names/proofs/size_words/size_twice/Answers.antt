@@ -1,13 +1,14 @@
-use Rattle.av_tree.specs.Rows.{is_index}
-use Rattle.av_names.proofs.Repeats.{second_more_of, second_found_of, was_there, was_new}
+use Rattle.std.proofs.Common.{◌≡◌, [], ◌∙◌, option_map}
+use Rattle.std.proofs.lemmas.Result.{IfOk-weaker}
+use Rattle.av_names.specs.declared.size.Size.{Size}
+use Rattle.av_names.specs.SizeWords as words
+use Rattle.av_names.specs.inner.FirstAgain.{first_again}
+use Rattle.av_names.proofs.Repeats.{again_named, told}
 use Rattle.av_names.proofs.size_words.size_twice.Goals as goal
 
-pub returns-then-not-branch : goal.returns-then-not-branch
-returns-then-not-branch c =
-    second_found_of (λ w. w.name) c.args.sizes.now c.loop-size.before c.loop-size.size-index c.size-item.result c.loop-size-test.true c.size-item.is
-    (was_there c.in_ok-put_name.field-0 (is_index c.loop-size.before c.size-item.result.name) c.in_ok-put_name.ensures.added c.if-not-branch.true) c.loop-size.invariant
-
-pub loop-size-preserved : goal.loop-size-preserved
-loop-size-preserved c =
-    second_more_of (λ w. w.name) c.args.sizes.now c.loop-size.before c.put_name.new.set c.loop-size.size-index c.size-item.result c.loop-size-test.true c.size-item.is
-    c.in_ok-put_name.ensures.names (was_new c.in_ok-put_name.field-0 (is_index c.loop-size.before c.size-item.result.name) c.in_ok-put_name.ensures.added c.if-not-branch.false) c.loop-size.invariant
+pub returns : goal.returns
+returns c =
+    let sizes = c.args.sizes.now in
+    let name = λ (s : Size). s.name in
+    IfOk-weaker c.first_again.result (λ size. option_map (λ s. s.now) size ≡ first_again name [] sizes) (λ size. option_map (λ s. s.now.name) size ≡ words.size_twice sizes)
+    (λ size is. told name size (first_again name [] sizes) is ∙ again_named name [] sizes) (rw c.new-before.ensures at c.first_again.ensures)
