@@ -19,7 +19,7 @@ use Rattle.av_clock.specs.Marked.{IsClear, has_kept, reads_same, touched}
 use Rattle.av_clock.specs.Marking.{IsSet, KeepsWord, AreTouched}
 use Rattle.av_clock.specs.Readers.{IsOther}
 use Rattle.av_clock.proofs.Lookup.{look_at, look_set, same_or_not}
-use Rattle.av_clock.proofs.Held.{targets_apart}
+use Rattle.av_clock.proofs.Held.{SettlesMarked, targets_apart}
 use Rattle.av_clock.proofs.Marking.{cleared, clear_after, never}
 use Rattle.av_clock.proofs.Readings.{name_at}
 
@@ -154,6 +154,12 @@ pub record SettlesTouched (m : Module) (before words : List ℕ) (old stale : Li
   pub ahead : (k : ℕ) (d : Drive) → drive ≤ k → k < length m.drives → named m words (get_or m.drives k d).target ≡ named m before (get_or m.drives k d).target
   pub clear : AreTouched m before words old stale
   pub few : count ≤ seen (named m before) (named m words) m.drives old drive
+
+-- the marked drives before this one are computed, no more than are touched and none before the first that is marked
+pub record SettlesAll (m : Module) (before words : List ℕ) (old stale due : List Bool) (drive count : ℕ) : Type 0 where
+  pub marked : SettlesMarked m before words stale due drive count
+  pub alone : (k : ℕ) → k ≤ length m.drives → ((j : ℕ) → j < k → IsClear old j) → count + k ≤ drive
+  pub touched : SettlesTouched m before words old stale drive count
 
 pub touch_none : (m : Module) (words : List ℕ) (marks : List Bool) (drive : ℕ) → SettlesTouched m words words marks marks drive 0
 touch_none m words marks drive = record { ahead = λ k d le lt. refl; clear = λ k d lt clear same. clear; few = omega arith }
