@@ -56,13 +56,6 @@ past_items m m' items flip_flops n view same are past =
     let steps : length m'.steps ≡ length m.steps = ap (λ (m : Module). length m.steps) view in
     omega arith
 
--- the same, of one that was read by its place
-pub for_place : (m m' : Module) (flip_flops : List FlipFlop) (n : ℕ) (flip_flop : FlipFlop) → m' ≡ m → AreStepped m' (length m'.steps) flip_flops → n < length m.steps → flip_flop ≡ get_or flip_flops n flip_flop → IsFor m n flip_flop
-for_place m m' flip_flops n flip_flop view are lt at =
-    let P : Module → Type 0 = λ m. AreStepped m (length m.steps) flip_flops in
-    let are' = subst P view are in
-    is_for m n flip_flops flip_flop are' (rw are'.count lt) at
-
 -- what a flip-flop reads is there
 pub next_within : (m : Module) (words : List ℕ) (n : ℕ) (flip_flop : FlipFlop) → length words ≡ length (all_names m) → IsFor m n flip_flop → IsWithin (length words) flip_flop.next
 next_within m words n flip_flop same for = read_within (all_names m) words for.step.next flip_flop.next same for.stepped.next

@@ -161,9 +161,6 @@ pub record SettlesAll (m : Module) (before words : List ℕ) (old stale due : Li
   pub alone : (k : ℕ) → k ≤ length m.drives → ((j : ℕ) → j < k → IsClear old j) → count + k ≤ drive
   pub touched : SettlesTouched m before words old stale drive count
 
-pub touch_none : (m : Module) (words : List ℕ) (marks : List Bool) (drive : ℕ) → SettlesTouched m words words marks marks drive 0
-touch_none m words marks drive = record { ahead = λ k d le lt. refl; clear = λ k d lt clear same. clear; few = omega arith }
-
 module _ (m : Module) (before words words' : List ℕ) (old stale stale' : List Bool) (drive next count : ℕ) (sound : IsSound m) (lt : drive < length m.drives) (there : drive < length stale) (marks : length old ≡ length m.drives)
     (marked : IsSet stale drive) (are : AreTouched m words words' stale stale') (others : (d : Drive) (name : List ℕ) → name ≢ (get_or m.drives drive d).target → named m words' name ≡ named m words name) (later : drive + 1 ≤ next)
     (so_far : SettlesTouched m before words old stale drive count) where
@@ -224,11 +221,3 @@ written_touched m words place word stale stale' sound same lt changed others k d
     let was : v name ≡ get_or words place 0 = look_at (all_names m) words place name distinct same at in
     let now : named m (set words place word) name ≡ word = rw wrote (with_word_same v name word) in
     others name at k d below clear (kept_others v (named m (set words place word)) name (λ e. changed (sym was ∙ e ∙ now)) (get_or m.drives k d).operation kept)
-
--- a mark that is cleared before a write
-pub cleared_touched : (m : Module) (words words' : List ℕ) (stale lent stale' : List Bool) (drive : ℕ) → drive < length stale → lent ≡ set stale drive false → AreTouched m words words' lent stale' → AreTouched m words words' stale stale'
-cleared_touched m words words' stale lent stale' drive lt is are k d below clear kept =
-    are k d below (subst (λ (ms : List Bool). IsClear ms k) (sym is) (elim (cases_eq k drive) [
-      | inl e ↦ subst (IsClear (set stale drive false)) (sym e) (cleared stale drive lt)
-      | inr other ↦ clear_after stale drive k false other clear
-    ])) kept

@@ -140,10 +140,6 @@ port_seen s m items b w k view lt = let P : Seen → Type 0 = λ t. k < length t
 pub fits_seen : {ms : List Bool} (s : Seen) (m : Module) (items : List ℕ) (b : Bool) (w : ℕ) (k value : ℕ) → record { of = m; words = items; settled = b; work = w; marked = ms } ≡ s → ForSome (slice_get s.of.inputs k) (λ port. IsWord port.width.bits value) → ForSome (slice_get m.inputs k) (λ port. IsWord port.width.bits value)
 fits_seen s m items b w k value view fits = let P : Seen → Type 0 = λ t. ForSome (slice_get t.of.inputs k) (λ port. IsWord port.width.bits value) in subst P (sym view) fits
 
--- the words after one was written
-written_call : (v : Vec ℕ Global) (before new : List ℕ) (k value : ℕ) → length new ≡ length before → before ≡ v.items → new ≡ set before k value → (with_items v new).items ≡ set v.items k value
-written_call v before new k value same is wrote = new_items v before new same is ∙ wrote ∙ ap (λ ws. set ws k value) is
-
 -- what is seen after a word was set
 pub set_seen : {ms ms' : List Bool} (s : Seen) (m m' : Module) (words words' : List ℕ) (b : Bool) (w : ℕ) (k value : ℕ) → record { of = m; words = words; settled = b; work = w; marked = ms } ≡ s → m' ≡ m → words' ≡ set words k value
     → record { of = m'; words = words'; settled = false; work = w; marked = ms' } ≡ record s { words = set s.words k value; settled = false; marked = ms' }
