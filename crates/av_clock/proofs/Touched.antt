@@ -1,6 +1,6 @@
 -- What a settle computes is marked, or reads a word that changes.
-use Rattle.std.proofs.Common.{◌≡◌, ◌≢◌, ℕ, zero, suc, ◌+◌, ◌<◌, ◌≤◌, Bool, true, false, not, ◌&&◌, ◌||◌, if◌then◌else◌, List, [], ◌∷◌, length, get_or, set, replicate, slice_get, Some, refl, sym, ap, ◌∙◌, subst, arith, inl, inr}
-use Rattle.std.proofs.lemmas.Bool.{eqb-true, eq-eqb, cases_eq}
+use Rattle.std.proofs.Common.{◌≡◌, ◌≢◌, ℕ, zero, suc, ◌+◌, ◌<◌, ◌≤◌, Bool, true, false, not, ◌&&◌, ◌||◌, if◌then◌else◌, List, [], ◌∷◌, length, get_or, set, replicate, slice_get, Some, refl, sym, ap, ◌∙◌, arith, inl, inr}
+use Rattle.std.proofs.lemmas.Bool.{eqb-true, eq-eqb}
 use Rattle.std.proofs.lemmas.List.{get_or_default}
 use Rattle.std.proofs.lemmas.Option.{slice_get_cases}
 use Rattle.av_net.specs.declared.operation.Operand.{Operand}
@@ -20,7 +20,7 @@ use Rattle.av_clock.specs.Marking.{IsSet, KeepsWord, AreTouched}
 use Rattle.av_clock.specs.Readers.{IsOther}
 use Rattle.av_clock.proofs.Lookup.{look_at, look_set, same_or_not}
 use Rattle.av_clock.proofs.Held.{SettlesMarked, targets_apart}
-use Rattle.av_clock.proofs.Marking.{cleared, clear_after, never}
+use Rattle.av_clock.proofs.Marking.{never}
 use Rattle.av_clock.proofs.Readings.{name_at}
 
 -- ---- operands that keep their words

@@ -1,16 +1,12 @@
-ghost use Rattle.std.specs.Prelude.{◌≡◌, ◌≢◌, ◌<◌, ◌≤◌, ◌+◌, ℕ, List as Items, length, false, true, slice_get, slice_set, slice_index, slice_index_or, Some, Contains, IfOk, All, filter};
-ghost use Rattle.av_base.specs.Words.{IsWord};
+ghost use Rattle.std.specs.Prelude.{◌≡◌, ◌<◌, ℕ, List as Items, length, slice_get, slice_index_or, Some, IfOk, filter};
 ghost use Rattle.av_net.specs.Meaning.{Words};
-ghost use Rattle.av_net.specs.Names.{all_names, given_names, names_of, registers_of, width_of};
-ghost use Rattle.av_net.specs.Settled.{Settled, Agree};
-ghost use Rattle.av_net.specs.Clocked.{Edge};
+ghost use Rattle.av_net.specs.Names.{all_names};
 ghost use Rattle.av_net.specs.Sound.{IsSound};
-ghost use Rattle.av_net.specs.Meaning.{word_of, EachOperand};
-ghost use Rattle.av_clock.specs.Named.{named, AllFit};
-ghost use Rattle.av_clock.specs.Marked.{IsClear, AreHeld, touched};
-ghost use Rattle.av_clock.specs.Marking.{IsSet, ReadTheSame, AreAhead, AreTouched, AreDue};
+ghost use Rattle.av_net.specs.Meaning.{EachOperand};
+ghost use Rattle.av_clock.specs.Marked.{IsClear};
+ghost use Rattle.av_clock.specs.Marking.{AreAhead};
 ghost use Rattle.av_clock.specs.Readers.{IsOther};
-ghost use Rattle.av_clock.specs.Kept.{computes, AreComputed, AreZero};
+ghost use Rattle.av_clock.specs.Kept.{computes, AreComputed};
 ghost use Rattle.av_clock.specs.Merged.{merged as merged_module, IsMerging};
 
 use crate::gate::{Assignment, FlipFlop};
@@ -48,7 +44,7 @@ impl<'a> Model for Circuit<'a> {
 }
 
 impl<'a> Circuit<'a> {
-    ghost use Rattle.av_clock.specs.Gates.{AreAssigned, AreStepped, AreTaken, FitRegisters};
+    ghost use Rattle.av_clock.specs.Gates.{AreAssigned, AreStepped};
 
     /// The circuit of a sound module's merged drives and steps.
     pub fn new(alloc: Global, of: &'a Module, merged: Merged) -> Result<Circuit<'a>, Memory>

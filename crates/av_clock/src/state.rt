@@ -1,4 +1,4 @@
-ghost use Rattle.std.specs.Prelude.{◌≡◌, ◌≢◌, ◌<◌, ◌≤◌, ◌+◌, ℕ, List as Items, length, replicate, true, false, slice_get, slice_set, slice_index, slice_index_or, Some, Contains, IfOk};
+ghost use Rattle.std.specs.Prelude.{◌≡◌, ◌<◌, ◌≤◌, ◌+◌, ℕ, List as Items, length, replicate, true, false, slice_get, slice_set, slice_index, slice_index_or, Some, Contains, IfOk};
 ghost use Rattle.std.specs.Option.{ForSome};
 ghost use Rattle.av_base.specs.Words.{IsWord};
 ghost use Rattle.av_net.specs.Meaning.{Words, word_of};
@@ -7,8 +7,9 @@ ghost use Rattle.av_net.specs.Settled.{Settled, Agree};
 ghost use Rattle.av_net.specs.Clocked.{Edge};
 ghost use Rattle.av_clock.specs.Named.{named, AllFit};
 ghost use Rattle.av_clock.specs.Gates.{AreTaken, FitRegisters};
-ghost use Rattle.av_clock.specs.Marked.{IsClear, AreHeld, touched};
+ghost use Rattle.av_clock.specs.Marked.{IsClear, touched};
 ghost use Rattle.av_clock.specs.Marking.{IsSet, ReadTheSame, AreAhead, AreTouched, AreDue};
+ghost use Rattle.av_clock.specs.inner.Computed.{IsComputed};
 ghost use Rattle.av_clock.specs.Merged.{merged as merged_module, IsMerging};
 
 use crate::circuit::Circuit;
@@ -85,17 +86,10 @@ impl<'a> State<'a> {
         requires marked { IsSet self.old.stale drive }
         requires held { IsHeld self.old }
         ensures circuit { self.new.circuit ≡ self.old.circuit }
-        ensures held { AreHeld self.old.circuit
-            self.new.words.items self.new.stale self.new.due }
-        ensures given { Agree (given_names self.old.circuit)
-            (named_words self.old) (named self.old.circuit self.new.words.items) }
-        ensures clear { ((k : ℕ) → k < drive → IsClear self.old.stale k)
-            → (k : ℕ) → k < drive + 1 → IsClear self.new.stale k }
+        ensures computed { IsComputed self.old.circuit drive self.old.words.items
+            self.new.words.items self.old.stale self.new.stale self.new.due }
         ensures touched { AreTouched self.old.circuit
             self.old.words.items self.new.words.items self.old.stale self.new.stale }
-        ensures others { (d : _) (name : Items ℕ)
-            → name ≢ (slice_index_or self.old.circuit.drives drive d).target
-            → named self.old.circuit self.new.words.items name ≡ named_words self.old name }
     {
         self.circuit.is_sound();
         let assignment = &self.circuit.assignments()[drive];

@@ -9,14 +9,10 @@ use Rattle.av_clock.specs.inner.State.{named_words}
 use Rattle.av_clock.proofs.engine.Engine.reset.Goals as goal
 
 pub returns-clause-edge : goal.returns-clause-edge
-returns-clause-edge c =
-    let t = c.reset.new.self in
-    subst (λ (s : Seen). Edge t.circuit true (carried s) (named_words t)) c.self.view_is c.reset.ensures.edge
+returns-clause-edge c = subst (λ (s : Seen). Edge c.reset.new.self.circuit true (carried s) (named_words c.reset.new.self)) c.self.view_is c.reset.ensures.edge
 
 pub returns-clause-ports : goal.returns-clause-ports
-returns-clause-ports c =
-    let t = c.reset.new.self in
-    subst (λ (s : Seen). Agree (names_of t.circuit.inputs) (carried s) (named_words t)) c.self.view_is c.reset.ensures.ports
+returns-clause-ports c = subst (λ (s : Seen). Agree (names_of c.reset.new.self.circuit.inputs) (carried s) (named_words c.reset.new.self)) c.self.view_is c.reset.ensures.ports
 
 pub invariant_of-self : goal.invariant_of-self
 invariant_of-self c = record {

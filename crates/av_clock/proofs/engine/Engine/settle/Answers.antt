@@ -15,9 +15,7 @@ settle_all-requires c =
     all_marked c.args.self.now c.self.inside.state.circuit c.self.inside.state.words.items c.self.inside.settled c.self.inside.dense c.self.inside.work c.self.inside.state.stale c.self.view_is c.if-self.true
 
 pub returns-clause-given : goal.returns-clause-given
-returns-clause-given c =
-    let t = c.settle_marked-computed.new.self in
-    subst (λ (s : Seen). Agree (given_names t.circuit) (carried s) (named_words t)) c.self.view_is c.settle_marked-computed.ensures.given
+returns-clause-given c = subst (λ (s : Seen). Agree (given_names c.settle_marked-computed.new.self.circuit) (carried s) (named_words c.settle_marked-computed.new.self)) c.self.view_is c.settle_marked-computed.ensures.given
 
 pub returns-clause-first : goal.returns-clause-first
 returns-clause-first c = λ none.

@@ -10,9 +10,7 @@ use Rattle.av_clock.proofs.Views.{first_count, all_computed, all_count}
 use Rattle.av_clock.proofs.engine.Engine.settle_all.Goals as goal
 
 pub returns-clause-given : goal.returns-clause-given
-returns-clause-given c =
-    let t = c.settle.new.self in
-    subst (λ (s : Seen). Agree (given_names t.circuit) (carried s) (named_words t)) c.self.view_is c.settle.ensures.given
+returns-clause-given c = subst (λ (s : Seen). Agree (given_names c.settle.new.self.circuit) (carried s) (named_words c.settle.new.self)) c.self.view_is c.settle.ensures.given
 
 pub returns-clause-alone : goal.returns-clause-alone
 returns-clause-alone c = λ k few clear.

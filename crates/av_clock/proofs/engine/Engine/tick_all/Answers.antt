@@ -8,14 +8,10 @@ use Rattle.av_clock.specs.inner.State.{named_words}
 use Rattle.av_clock.proofs.engine.Engine.tick_all.Goals as goal
 
 pub returns-clause-edge : goal.returns-clause-edge
-returns-clause-edge c =
-    let t = c.tick_all.new.self in
-    subst (λ (s : Seen). Edge t.circuit false (carried s) (named_words t)) c.self.view_is c.tick_all.ensures.edge
+returns-clause-edge c = subst (λ (s : Seen). Edge c.tick_all.new.self.circuit false (carried s) (named_words c.tick_all.new.self)) c.self.view_is c.tick_all.ensures.edge
 
 pub returns-clause-ports : goal.returns-clause-ports
-returns-clause-ports c =
-    let t = c.tick_all.new.self in
-    subst (λ (s : Seen). Agree (names_of t.circuit.inputs) (carried s) (named_words t)) c.self.view_is c.tick_all.ensures.ports
+returns-clause-ports c = subst (λ (s : Seen). Agree (names_of c.tick_all.new.self.circuit.inputs) (carried s) (named_words c.tick_all.new.self)) c.self.view_is c.tick_all.ensures.ports
 
 pub invariant_of-self : goal.invariant_of-self
 invariant_of-self c = record {

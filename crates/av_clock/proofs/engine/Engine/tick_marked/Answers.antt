@@ -12,14 +12,10 @@ pub tick_marked-requires-clause-settled : goal.tick_marked-requires-clause-settl
 tick_marked-requires-clause-settled c = c.self.invariant.settled (ap (λ (s : Seen). s.settled) c.self.view_is ∙ c.requires)
 
 pub returns-clause-edge : goal.returns-clause-edge
-returns-clause-edge c =
-    let t = c.tick_marked.new.self in
-    subst (λ (s : Seen). Edge t.circuit false (carried s) (named_words t)) c.self.view_is c.tick_marked.ensures.edge
+returns-clause-edge c = subst (λ (s : Seen). Edge c.tick_marked.new.self.circuit false (carried s) (named_words c.tick_marked.new.self)) c.self.view_is c.tick_marked.ensures.edge
 
 pub returns-clause-ports : goal.returns-clause-ports
-returns-clause-ports c =
-    let t = c.tick_marked.new.self in
-    subst (λ (s : Seen). Agree (names_of t.circuit.inputs) (carried s) (named_words t)) c.self.view_is c.tick_marked.ensures.ports
+returns-clause-ports c = subst (λ (s : Seen). Agree (names_of c.tick_marked.new.self.circuit.inputs) (carried s) (named_words c.tick_marked.new.self)) c.self.view_is c.tick_marked.ensures.ports
 
 pub invariant_of-self : goal.invariant_of-self
 invariant_of-self c = record {

@@ -9,46 +9,42 @@ use Rattle.av_clock.proofs.state.State.settle.Goals as goal
 
 pub word-requires : goal.word-requires
 word-requires c =
-    let m = c.args.self.now.circuit in
-    let long = c.loop-assignment.auto.words ∙ ap length c.as_mut_slice-words.ensures.value ∙ c.args.self.now.size in
-    let one = one_of m c.computed-assignment-items.result.now c.loop-assignment.assignment-index c.assignment-item.result c.computed-assignment-items.ensures c.loop-assignment-test.true c.assignment-item.is in
-    assignment_takes m c.loop-assignment.words one.place c.assignment-item.result c.is_sound.ensures long one.for c.loop-assignment.invariant.fit
+    let s = c.args.self.now in
+    let one = one_of s.circuit c.computed-assignment-items.result.now c.loop-assignment.assignment-index c.assignment-item.result c.computed-assignment-items.ensures c.loop-assignment-test.true c.assignment-item.is in
+    assignment_takes s.circuit c.loop-assignment.words one.place c.assignment-item.result c.is_sound.ensures (c.loop-assignment.auto.words ∙ ap length c.as_mut_slice-words.ensures.value ∙ s.size) one.for c.loop-assignment.invariant.fit
 
 pub bounds-words-assignment : goal.bounds-words-assignment
 bounds-words-assignment c =
-    let m = c.args.self.now.circuit in
-    let long = c.loop-assignment.auto.words ∙ ap length c.as_mut_slice-words.ensures.value ∙ c.args.self.now.size in
-    let one = one_of m c.computed-assignment-items.result.now c.loop-assignment.assignment-index c.assignment-item.result c.computed-assignment-items.ensures c.loop-assignment-test.true c.assignment-item.is in
-    target_within m c.loop-assignment.words one.place c.assignment-item.result long one.for
+    let s = c.args.self.now in
+    let one = one_of s.circuit c.computed-assignment-items.result.now c.loop-assignment.assignment-index c.assignment-item.result c.computed-assignment-items.ensures c.loop-assignment-test.true c.assignment-item.is in
+    target_within s.circuit c.loop-assignment.words one.place c.assignment-item.result (c.loop-assignment.auto.words ∙ ap length c.as_mut_slice-words.ensures.value ∙ s.size) one.for
 
 pub offset_bounds-words-assignment : goal.offset_bounds-words-assignment
 offset_bounds-words-assignment c =
-    let m = c.args.self.now.circuit in
-    let long = c.loop-assignment.auto.words ∙ ap length c.as_mut_slice-words.ensures.value ∙ c.args.self.now.size in
-    let one = one_of m c.computed-assignment-items.result.now c.loop-assignment.assignment-index c.assignment-item.result c.computed-assignment-items.ensures c.loop-assignment-test.true c.assignment-item.is in
-    let lt : c.assignment-item.result.target < length c.loop-assignment.words = target_within m c.loop-assignment.words one.place c.assignment-item.result long one.for in
+    let s = c.args.self.now in
+    let one = one_of s.circuit c.computed-assignment-items.result.now c.loop-assignment.assignment-index c.assignment-item.result c.computed-assignment-items.ensures c.loop-assignment-test.true c.assignment-item.is in
+    let lt : c.assignment-item.result.target < length c.loop-assignment.words = target_within s.circuit c.loop-assignment.words one.place c.assignment-item.result (c.loop-assignment.auto.words ∙ ap length c.as_mut_slice-words.ensures.value ∙ s.size) one.for in
     omega arith
 
 pub loop-assignment-preserved : goal.loop-assignment-preserved
 loop-assignment-preserved c =
-    let m = c.args.self.now.circuit in
-    let long = c.loop-assignment.auto.words ∙ ap length c.as_mut_slice-words.ensures.value ∙ c.args.self.now.size in
-    let one = one_of m c.computed-assignment-items.result.now c.loop-assignment.assignment-index c.assignment-item.result c.computed-assignment-items.ensures c.loop-assignment-test.true c.assignment-item.is in
-    computes_more m c.computed-assignment-items.result.now c.args.self.now.words.items c.loop-assignment.words c.loop-assignment.assignment-index c.assignment-item.result c.word.result c.is_sound.ensures
-    long c.loop-assignment-test.true c.assignment-item.is one c.word.ensures c.loop-assignment.invariant
+    let s = c.args.self.now in
+    let one = one_of s.circuit c.computed-assignment-items.result.now c.loop-assignment.assignment-index c.assignment-item.result c.computed-assignment-items.ensures c.loop-assignment-test.true c.assignment-item.is in
+    computes_more s.circuit c.computed-assignment-items.result.now s.words.items c.loop-assignment.words c.loop-assignment.assignment-index c.assignment-item.result c.word.result c.is_sound.ensures
+    (c.loop-assignment.auto.words ∙ ap length c.as_mut_slice-words.ensures.value ∙ s.size) c.loop-assignment-test.true c.assignment-item.is one c.word.ensures c.loop-assignment.invariant
 
 pub returns-clause-settled : goal.returns-clause-settled
 returns-clause-settled c =
-    let m = c.args.self.now.circuit in
+    let s = c.args.self.now in
     let all = c.computed-assignment-items.ensures in
-    subst (λ (ws : List ℕ). Settled m (named m ws)) (sym (new_items c.args.self.now.words _ c.loop-assignment.words c.loop-assignment.auto.words c.as_mut_slice-words.ensures.value))
-    (have_settled m all.assignments c.computed-assignment-items.result.now c.args.self.now.words.items c.loop-assignment.words c.loop-assignment.assignment-index c.is_sound.ensures c.args.self.now.size all.assigned all.filtered
+    subst (λ (ws : List ℕ). Settled s.circuit (named s.circuit ws)) (sym (new_items s.words _ c.loop-assignment.words c.loop-assignment.auto.words c.as_mut_slice-words.ensures.value))
+    (have_settled s.circuit all.assignments c.computed-assignment-items.result.now s.words.items c.loop-assignment.words c.loop-assignment.assignment-index c.is_sound.ensures s.size all.assigned all.filtered
     c.requires.zeros c.loop-assignment-test.false c.loop-assignment.invariant).settled
 
 pub returns-clause-given : goal.returns-clause-given
 returns-clause-given c =
-    let m = c.args.self.now.circuit in
+    let s = c.args.self.now in
     let all = c.computed-assignment-items.ensures in
-    subst (λ (ws : List ℕ). Agree (given_names m) (named m c.args.self.now.words.items) (named m ws)) (sym (new_items c.args.self.now.words _ c.loop-assignment.words c.loop-assignment.auto.words c.as_mut_slice-words.ensures.value))
-    (have_settled m all.assignments c.computed-assignment-items.result.now c.args.self.now.words.items c.loop-assignment.words c.loop-assignment.assignment-index c.is_sound.ensures c.args.self.now.size all.assigned all.filtered
+    subst (λ (ws : List ℕ). Agree (given_names s.circuit) (named s.circuit s.words.items) (named s.circuit ws)) (sym (new_items s.words _ c.loop-assignment.words c.loop-assignment.auto.words c.as_mut_slice-words.ensures.value))
+    (have_settled s.circuit all.assignments c.computed-assignment-items.result.now s.words.items c.loop-assignment.words c.loop-assignment.assignment-index c.is_sound.ensures s.size all.assigned all.filtered
     c.requires.zeros c.loop-assignment-test.false c.loop-assignment.invariant).given

@@ -1,4 +1,4 @@
-use Rattle.std.proofs.Common.{List, ℕ, ◌∙◌, ◌<◌, ap, sym, subst, length, get_or, arith, refl}
+use Rattle.std.proofs.Common.{List, ℕ, ◌∙◌, ◌<◌, ap, sym, subst, length, get_or, arith}
 use Rattle.av_net.specs.Names.{names_of}
 use Rattle.av_net.specs.Settled.{Agree}
 use Rattle.av_clock.specs.Named.{named}
@@ -13,7 +13,7 @@ bounds-words-flip_flop c =
     let s = c.args.self.now in
     let flip_flops = c.flip_flops-flip_flop-items.result.now in
     register_within s.circuit c.loop-i.words c.loop-i.i (get_or flip_flops c.loop-i.i no_flip_flop) (c.loop-i.auto.words ∙ ap length c.as_mut_slice-words.ensures.value ∙ s.size)
-    (for_read s.circuit s.circuit flip_flops flip_flops c.loop-i.i refl refl c.flip_flops-flip_flop-items.ensures c.loop-i-test.true)
+    (for_read s.circuit flip_flops c.loop-i.i c.flip_flops-flip_flop-items.ensures c.loop-i-test.true)
 
 pub offset_bounds-words-flip_flop : goal.offset_bounds-words-flip_flop
 offset_bounds-words-flip_flop c =
@@ -21,7 +21,7 @@ offset_bounds-words-flip_flop c =
     let flip_flops = c.flip_flops-flip_flop-items.result.now in
     let within : (get_or flip_flops c.loop-i.i no_flip_flop).register < length c.loop-i.words =
     register_within s.circuit c.loop-i.words c.loop-i.i (get_or flip_flops c.loop-i.i no_flip_flop) (c.loop-i.auto.words ∙ ap length c.as_mut_slice-words.ensures.value ∙ s.size)
-    (for_read s.circuit s.circuit flip_flops flip_flops c.loop-i.i refl refl c.flip_flops-flip_flop-items.ensures c.loop-i-test.true) in
+    (for_read s.circuit flip_flops c.loop-i.i c.flip_flops-flip_flop-items.ensures c.loop-i-test.true) in
     omega arith
 
 pub loop-i-preserved : goal.loop-i-preserved
@@ -29,7 +29,7 @@ loop-i-preserved c =
     let s = c.args.self.now in
     let flip_flops = c.flip_flops-flip_flop-items.result.now in
     stores_more s.circuit s.words.items c.loop-i.words s.next.items c.loop-i.i (get_or flip_flops c.loop-i.i no_flip_flop) (get_or c.as_slice-next.result.now c.loop-i.i 0) c.is_sound.ensures (c.loop-i.auto.words ∙ ap length c.as_mut_slice-words.ensures.value ∙ s.size)
-    (for_read s.circuit s.circuit flip_flops flip_flops c.loop-i.i refl refl c.flip_flops-flip_flop-items.ensures c.loop-i-test.true)
+    (for_read s.circuit flip_flops c.loop-i.i c.flip_flops-flip_flop-items.ensures c.loop-i-test.true)
     (ap (λ ws. get_or ws c.loop-i.i 0) c.as_slice-next.ensures.value) c.requires.fitting c.loop-i.invariant
 
 pub returns-clause-ports : goal.returns-clause-ports
