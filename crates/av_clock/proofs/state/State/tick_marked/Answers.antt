@@ -1,48 +1,37 @@
 use Rattle.std.proofs.Common.{List, ℕ, Bool, false, sym, subst, slice_index_or}
 use Rattle.av_net.specs.declared.netlist.Module.{Module}
 use Rattle.av_net.specs.Meaning.{word_of}
-use Rattle.av_net.specs.Names.{names_of}
-use Rattle.av_net.specs.Settled.{Agree}
-use Rattle.av_net.specs.Clocked.{Edge}
-use Rattle.av_clock.specs.Named.{named}
 use Rattle.av_clock.specs.Marked.{AreHeld}
-use Rattle.av_clock.specs.Kept.{AreZero}
 use Rattle.av_clock.specs.inner.State.{named_words}
-use Rattle.av_clock.proofs.Computing.{edge_zero}
-use Rattle.av_clock.proofs.Taking.{due_fit, ports_same, tick_held}
+use Rattle.av_clock.proofs.Storing.{edge_stored, ports_stored, zeros_stored}
+use Rattle.av_clock.proofs.Taking.{due_fit, tick_held}
 use Rattle.av_clock.proofs.Views.{anew_held}
 use Rattle.av_clock.proofs.state.State.tick_marked.Goals as goal
-
-pub store_taken-requires-clause-fitting : goal.store_taken-requires-clause-fitting
-store_taken-requires-clause-fitting c =
-    let s = c.take_due-count.new.self in
-    due_fit s.circuit s.words.items s.taken.items s.next.items c.take_due-count.result c.is_sound.ensures s.fit c.take_due-count.ensures.within c.take_due-count.ensures.taken
 
 pub take_due-count-requires : goal.take_due-count-requires
 take_due-count-requires c =
     let s = c.args.self.now in
     record { held = anew_held s.circuit s.words.items c.args.dense s.stale c.mark_anew.new.stale s.due c.mark_anew.new.due c.mark_anew.ensures.dense c.mark_anew.ensures.kept c.requires.held c.requires.settled }
 
+pub store_taken-requires-clause-fitting : goal.store_taken-requires-clause-fitting
+store_taken-requires-clause-fitting c =
+    let s = c.take_due-count.new.self in
+    due_fit s.circuit s.words.items s.taken.items s.next.items c.take_due-count.result c.is_sound.ensures s.fit c.take_due-count.ensures.within c.take_due-count.ensures.taken
+
 pub returns-clause-edge : goal.returns-clause-edge
 returns-clause-edge c =
     let s = c.take_due-count.new.self in
-    let t = c.store_taken.new.self in
-    let edge : Edge s.circuit false (named_words s) (named s.circuit t.words.items) = λ k d lt. c.store_taken.ensures.registers (λ i. word_of (named_words s) (slice_index_or s.circuit.steps i d).next) (c.take_due-count.ensures.taken d) k d lt in
-    subst (λ (kept : Module × List ℕ × List Bool). Edge t.circuit false (named kept.0 kept.1) (named_words t)) c.take_due-count.ensures.kept (subst (λ (m : Module). Edge m false (named_words s) (named m t.words.items)) (sym c.store_taken.ensures.circuit) edge)
+    edge_stored _ s c.store_taken.new.self c.take_due-count.ensures.kept c.store_taken.ensures.circuit false
+    (λ k d lt. c.store_taken.ensures.registers (λ i. word_of (named_words s) (slice_index_or s.circuit.steps i d).next) (c.take_due-count.ensures.taken d) k d lt)
 
 pub returns-clause-ports : goal.returns-clause-ports
-returns-clause-ports c =
-    let s = c.take_due-count.new.self in
-    let t = c.store_taken.new.self in
-    let ports = ports_same s.circuit (named_words s) (named s.circuit t.words.items) c.is_sound.ensures c.store_taken.ensures.others in
-    subst (λ (kept : Module × List ℕ × List Bool). Agree (names_of t.circuit.inputs) (named kept.0 kept.1) (named_words t)) c.take_due-count.ensures.kept
-    (subst (λ (m : Module). Agree (names_of m.inputs) (named_words s) (named m t.words.items)) (sym c.store_taken.ensures.circuit) ports)
+returns-clause-ports c = ports_stored _ c.take_due-count.new.self c.store_taken.new.self c.take_due-count.ensures.kept c.store_taken.ensures.circuit c.is_sound.ensures c.store_taken.ensures.others
 
 pub returns-clause-held : goal.returns-clause-held
 returns-clause-held c =
+    let first = c.args.self.now in
     let s = c.take_due-count.new.self in
     let t = c.store_taken.new.self in
-    let first = c.args.self.now in
     let anew = anew_held first.circuit first.words.items c.args.dense first.stale c.mark_anew.new.stale first.due c.mark_anew.new.due c.mark_anew.ensures.dense c.mark_anew.ensures.kept c.requires.held c.requires.settled in
     let before = subst (λ (kept : Module × List ℕ × List Bool). AreHeld kept.0 kept.1 kept.2 c.mark_anew.new.due) (sym c.take_due-count.ensures.kept) anew in
     subst (λ (m : Module). AreHeld m t.words.items t.stale t.due) (sym c.store_taken.ensures.circuit)
@@ -50,8 +39,4 @@ returns-clause-held c =
     (λ k d lt. c.store_taken.ensures.registers (λ i. word_of (named_words s) (slice_index_or s.circuit.steps i d).next) (c.take_due-count.ensures.taken d) k d lt))
 
 pub returns-clause-zeros : goal.returns-clause-zeros
-returns-clause-zeros c = λ zeros.
-    let s = c.take_due-count.new.self in
-    let t = c.store_taken.new.self in
-    let before = subst (λ (kept : Module × List ℕ × List Bool). AreZero kept.0 kept.1) (sym c.take_due-count.ensures.kept) zeros in
-    subst (λ (m : Module). AreZero m t.words.items) (sym c.store_taken.ensures.circuit) (edge_zero s.circuit s.words.items t.words.items c.is_sound.ensures c.store_taken.ensures.others before)
+returns-clause-zeros c = zeros_stored _ c.take_due-count.new.self c.store_taken.new.self c.take_due-count.ensures.kept c.store_taken.ensures.circuit c.is_sound.ensures c.store_taken.ensures.others
