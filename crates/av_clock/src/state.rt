@@ -92,10 +92,10 @@ impl<'a> State<'a> {
             self.old.words.items self.new.words.items self.old.stale self.new.stale }
     {
         self.circuit.is_sound();
+        self.stale.clear(drive);
         let assignment = &self.circuit.assignments()[drive];
         let target = assignment.target;
         let word = assignment.gate.word(&self.words);
-        self.stale.clear(drive);
         self.write(target, word);
     }
 
