@@ -13,7 +13,7 @@ use Rattle.av_clock.specs.declared.state.State.{State}
 use Rattle.av_clock.specs.Named.{named}
 use Rattle.av_clock.specs.Gates.{AreStepped}
 use Rattle.av_clock.specs.Kept.{AreZero}
-use Rattle.av_clock.specs.inner.State.{named_words, carried, HasZeros}
+use Rattle.av_clock.specs.inner.State.{named_words, drive_state, HasZeros}
 use Rattle.av_clock.proofs.Computing.{edge_zero}
 use Rattle.av_clock.proofs.Edges.{IsFor, no_flip_flop, for_read}
 use Rattle.av_clock.proofs.Taking.{ports_same}
@@ -40,7 +40,7 @@ is_taken first s count i step word flip_flops same taken next few lt within are 
 
 -- ---- what holds after it, from what was seen before the steps were taken
 
-module _ (seen : Module × List ℕ × List Bool) (s t : State) (kept : carried s ≡ seen) (same : t.circuit ≡ s.circuit) where
+module _ (seen : Module × List ℕ × List Bool) (s t : State) (kept : drive_state s ≡ seen) (same : t.circuit ≡ s.circuit) where
   pub edge_stored : (reset : Bool) → Edge s.circuit reset (named_words s) (named s.circuit t.words.items) → Edge t.circuit reset (named seen.0 seen.1) (named_words t)
   edge_stored reset edge =
       subst (λ (c : Module × List ℕ × List Bool). Edge t.circuit reset (named c.0 c.1) (named_words t)) kept (subst (λ (m : Module). Edge m reset (named_words s) (named m t.words.items)) (sym same) edge)

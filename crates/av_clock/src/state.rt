@@ -40,7 +40,7 @@ pub(crate) struct State<'a> {
 }
 
 impl<'a> State<'a> {
-    ghost use Rattle.av_clock.specs.inner.State.{named_words, carried, IsHeld, HasZeros};
+    ghost use Rattle.av_clock.specs.inner.State.{named_words, drive_state, IsHeld, HasZeros};
 
     /// All words 0, and no mark set.
     pub(crate) fn new(alloc: Global, of: &'a Module, merged: Merged) -> Result<State<'a>, Memory>
@@ -172,7 +172,7 @@ impl<'a> State<'a> {
     // The marked steps, the words that their registers take at an edge without reset, and their number.
     fn take_due(&mut self) -> usize
         requires held { IsHeld self.old }
-        ensures kept { carried self.new ≡ carried self.old }
+        ensures kept { drive_state self.new ≡ drive_state self.old }
         ensures count { result ≤ length self.new.circuit.steps }
         ensures within { (j : ℕ) → j < result
             → slice_index self.new.taken.items j < length self.new.circuit.steps }
@@ -262,7 +262,7 @@ impl<'a> State<'a> {
 
     // All steps, and what each register takes at an edge with reset.
     fn reset_words(&mut self)
-        ensures kept { carried self.new ≡ carried self.old }
+        ensures kept { drive_state self.new ≡ drive_state self.old }
         ensures due { self.new.due ≡ self.old.due }
         ensures steps { (j : ℕ) → j < length self.new.circuit.steps
             → slice_index self.new.taken.items j ≡ j }
@@ -292,7 +292,7 @@ impl<'a> State<'a> {
 
     // What each register takes at an edge without reset, in the order of the steps.
     fn next_words(&mut self)
-        ensures kept { carried self.new ≡ carried self.old }
+        ensures kept { drive_state self.new ≡ drive_state self.old }
         ensures taken { AreTaken self.new.circuit false
             (named_words self.new) (length self.new.circuit.steps) self.new.next.items }
     {

@@ -11,9 +11,9 @@ use Rattle.av_clock.specs.Kept.{AreZero}
 abbrev pub named_words : State → Words
 named_words s = named s.circuit s.words.items
 
--- its circuit and words, and the marks of its drives
-abbrev pub carried : State → Module × List ℕ × List Bool
-carried s = (s.circuit, s.words.items, s.stale)
+-- what concerns drives: the circuit, the words, and the drives' marks
+abbrev pub drive_state : State → Module × List ℕ × List Bool
+drive_state s = (s.circuit, s.words.items, s.stale)
 
 -- what is not marked holds
 abbrev pub IsHeld : State → Type 0

@@ -29,7 +29,7 @@ returns-clause-held c = λ held.
     let s = c.reset_words.new.self in
     let t = c.store_taken.new.self in
     let before = subst (λ (due : List Bool). AreHeld s.circuit s.words.items s.stale due) (sym c.reset_words.ensures.due)
-        (subst (λ (kept : Module × List ℕ × List Bool). AreHeld kept.0 kept.1 kept.2 c.args.self.now.due) (sym c.reset_words.ensures.kept) held) in
+    (subst (λ (kept : Module × List ℕ × List Bool). AreHeld kept.0 kept.1 kept.2 c.args.self.now.due) (sym c.reset_words.ensures.kept) held) in
     subst (λ (m : Module). AreHeld m t.words.items t.stale c.fill.new.self) (sym c.store_taken.ensures.circuit)
     (reset_held s.circuit s.words.items t.words.items s.stale t.stale s.due t.due _ _ c.is_sound.ensures c.store_taken.ensures.same c.store_taken.ensures.others c.fill.ensures before)
 
