@@ -27,7 +27,7 @@ use Rattle.av_clock.specs.declared.gate.Gate.TheVariants.{Buffer, Operator, Comp
 use Rattle.av_clock.specs.declared.gate.Assignment.{Assignment}
 use Rattle.av_clock.specs.Named.{named, AllFit}
 use Rattle.av_clock.specs.Gates.{gate_word, is_zero, IsResolved, IsAssigned, AreAssigned}
-use Rattle.av_clock.specs.Kept.{computes, IsZero, AreZero}
+use Rattle.av_clock.specs.Kept.{computes, AreComputed, IsZero, AreZero}
 use Rattle.av_clock.proofs.Held.{given_apart}
 use Rattle.av_clock.proofs.Lookup.{look_set, look_zero, same_or_not}
 use Rattle.av_clock.proofs.Resolved.{at_item, drive_reads, drive_suits}
@@ -141,6 +141,9 @@ each_one m assignments computed are same = subst (All (IsOne m)) (sym same) (All
   place = k;
   for = is_for m k assignments (get_or assignments k d) are lt (get_or_default assignments k d (get_or assignments k d) lt);
 }))
+
+pub one_of : (m : Module) (computed : List Assignment) (n : ℕ) (assignment : Assignment) → AreComputed m computed → n < length computed → assignment ≡ get_or computed n assignment → IsOne m assignment
+one_of m computed n assignment are lt at = at_item (IsOne m) computed n assignment lt at (each_one m are.assignments computed are.assigned are.filtered)
 
 -- a word of one of them fits
 word_fitting : (m : Module) (words : List ℕ) (n : ℕ) (assignment : Assignment) → IsSound m → length words ≡ length (all_names m) → IsFor m n assignment → AllFit m words → AllFit m (set words assignment.target (gate_word words assignment.gate))

@@ -42,27 +42,6 @@ is_for m n flip_flops flip_flop are lt at = elim (slice_get_cases m.steps n).1 [
   | inr (past, none) ↦ let count = are.count in absurd (omega arith)
 ]
 
--- the same, of a circuit's flip-flops as they were read
-pub for_item : (m m' : Module) (items flip_flops : List FlipFlop) (n : ℕ) (flip_flop : FlipFlop) → m' ≡ m → items ≡ flip_flops → AreStepped m' (length m'.steps) flip_flops → n < length items → flip_flop ≡ get_or items n flip_flop → IsFor m n flip_flop
-for_item m m' items flip_flops n flip_flop view same are lt at =
-    let P : Module → Type 0 = λ m. AreStepped m (length m.steps) flip_flops in
-    is_for m n flip_flops flip_flop (subst P view are) (rw same at lt) (rw same at at)
-
--- after the last of them
-pub past_items : (m m' : Module) (items flip_flops : List FlipFlop) (n : ℕ) → m' ≡ m → items ≡ flip_flops → AreStepped m' (length m'.steps) flip_flops → length items ≤ n → length m.steps ≤ n
-past_items m m' items flip_flops n view same are past =
-    let count : length flip_flops ≡ length m'.steps = are.count in
-    let long : length items ≡ length flip_flops = ap length same in
-    let steps : length m'.steps ≡ length m.steps = ap (λ (m : Module). length m.steps) view in
-    omega arith
-
--- the same, of one that was read by its place
-pub for_place : (m m' : Module) (flip_flops : List FlipFlop) (n : ℕ) (flip_flop : FlipFlop) → m' ≡ m → AreStepped m' (length m'.steps) flip_flops → n < length m.steps → flip_flop ≡ get_or flip_flops n flip_flop → IsFor m n flip_flop
-for_place m m' flip_flops n flip_flop view are lt at =
-    let P : Module → Type 0 = λ m. AreStepped m (length m.steps) flip_flops in
-    let are' = subst P view are in
-    is_for m n flip_flops flip_flop are' (rw are'.count lt) at
-
 -- what a flip-flop reads is there
 pub next_within : (m : Module) (words : List ℕ) (n : ℕ) (flip_flop : FlipFlop) → length words ≡ length (all_names m) → IsFor m n flip_flop → IsWithin (length words) flip_flop.next
 next_within m words n flip_flop same for = read_within (all_names m) words for.step.next flip_flop.next same for.stepped.next
@@ -178,8 +157,8 @@ abbrev pub no_flip_flop : FlipFlop
 no_flip_flop = record { register = 0; reset = 0; next = At 0 }
 
 -- a flip-flop that was read by its place
-pub for_read : (m m' : Module) (items flip_flops : List FlipFlop) (n : ℕ) → m' ≡ m → items ≡ flip_flops → AreStepped m' (length m'.steps) flip_flops → n < length items → IsFor m n (get_or items n no_flip_flop)
-for_read m m' items flip_flops n view same are lt = for_item m m' items flip_flops n (get_or items n no_flip_flop) view same are lt (get_or_default items n no_flip_flop (get_or items n no_flip_flop) lt)
+pub for_read : (m : Module) (flip_flops : List FlipFlop) (n : ℕ) → AreStepped m (length m.steps) flip_flops → n < length flip_flops → IsFor m n (get_or flip_flops n no_flip_flop)
+for_read m flip_flops n are lt = is_for m n flip_flops (get_or flip_flops n no_flip_flop) are lt (get_or_default flip_flops n no_flip_flop (get_or flip_flops n no_flip_flop) lt)
 
 -- each step is taken at its own place
 pub taken_itself : (taken : List ℕ) (n : ℕ) → n < length taken → ((j : ℕ) → j < n → get_or taken j 0 ≡ j) → (j : ℕ) → j < n + 1 → get_or (set taken n n) j 0 ≡ j

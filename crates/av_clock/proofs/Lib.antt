@@ -17,3 +17,4 @@ pub mod Merging
 pub mod Computing
 pub mod SourcedWords
 pub mod Bits
+pub mod Storing

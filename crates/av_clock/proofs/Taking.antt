@@ -1,5 +1,5 @@
 -- Steps that are taken at an edge, and the words that their registers get.
-use Rattle.std.proofs.Common.{◌≡◌, ◌≢◌, ◌⊎◌, ℕ, ◌+◌, ◌<◌, ◌≤◌, List, length, get_or, set, replicate, refl, sym, ◌∙◌, ap, subst, arith, Bool, true, false, inl, inr}
+use Rattle.std.proofs.Common.{◌≡◌, ◌≢◌, ◌⊎◌, ℕ, ◌+◌, ◌<◌, ◌≤◌, List, length, get_or, set, slice_get, Some, replicate, refl, sym, ◌∙◌, ap, subst, arith, Bool, true, false, inl, inr}
 use Rattle.std.specs.Prelude.{Contains}
 use Rattle.std.proofs.Math.ListN.{length-set}
 use Rattle.std.proofs.lemmas.Bool.{cases_eq, cases_lt}
@@ -166,6 +166,16 @@ behind taken n j i le is ne = elim (cases_eq j n) [
   | inr other ↦ omega arith
 ]
 
+-- the next word of a taken step fits the register
+pub taken_fits : (m : Module) (taken next : List ℕ) (count n : ℕ) (flip_flop : FlipFlop) → n < count → IsFor m (get_or taken n 0) flip_flop
+    → ((j : ℕ) (d : Step) → j < count → IsWord (width_of m (get_or m.steps (get_or taken j 0) d).register) (get_or next j 0))
+    → (name : List ℕ) → slice_get (all_names m) flip_flop.register ≡ Some name → IsWord (width_of m name) (get_or next n 0)
+taken_fits m taken next count n flip_flop lt for fits name at =
+    let same : for.step.register ≡ name = let e = sym for.stepped.register ∙ at in cc in
+    let here : get_or m.steps (get_or taken n 0) for.step ≡ for.step = sym for.at in
+    let fitting : IsWord (width_of m for.step.register) (get_or next n 0) = rw here at (fits n for.step lt) in
+    subst (λ (other : List ℕ). IsWord (width_of m other) (get_or next n 0)) same fitting
+
 -- one more
 pub gives_more : (m : Module) (words words' words'' : List ℕ) (stale stale' stale'' due due' due'' : List Bool) (taken next : List ℕ) (count n : ℕ) (flip_flop : FlipFlop)
     → IsSound m → length words' ≡ length (all_names m) → n < count → IsFor m (get_or taken n 0) flip_flop
@@ -179,7 +189,7 @@ gives_more m words words' words'' stale stale' stale'' due due' due'' taken next
     let v = named m words' in
     let wrote : named m words'' ≡ with_word v step.register word = ap (named m) wrote' ∙ look_set (all_names m) words' flip_flop.register word step.register (names_distinct m sound) same for.stepped.register in
     let at : get_or m.steps k step ≡ step = sym for.at in
-    let fitting : IsWord (width_of m step.register) word = rw at at (fits n step lt) in
+    let fitting : IsWord (width_of m step.register) word = taken_fits m taken next count n flip_flop lt for fits step.register for.stepped.register in
     record {
       drive_marks = size ∙ so_far.drive_marks;
       step_marks = size' ∙ so_far.step_marks;

@@ -1,6 +1,6 @@
 -- What a settle computes is marked, or reads a word that changes.
-use Rattle.std.proofs.Common.{◌≡◌, ◌≢◌, ℕ, zero, suc, ◌+◌, ◌<◌, ◌≤◌, Bool, true, false, not, ◌&&◌, ◌||◌, if◌then◌else◌, List, [], ◌∷◌, length, get_or, set, replicate, slice_get, Some, refl, sym, ap, ◌∙◌, subst, arith, inl, inr}
-use Rattle.std.proofs.lemmas.Bool.{eqb-true, eq-eqb, cases_eq}
+use Rattle.std.proofs.Common.{◌≡◌, ◌≢◌, ℕ, zero, suc, ◌+◌, ◌<◌, ◌≤◌, Bool, true, false, not, ◌&&◌, ◌||◌, if◌then◌else◌, List, [], ◌∷◌, length, get_or, set, replicate, slice_get, Some, refl, sym, ap, ◌∙◌, arith, inl, inr}
+use Rattle.std.proofs.lemmas.Bool.{eqb-true, eq-eqb}
 use Rattle.std.proofs.lemmas.List.{get_or_default}
 use Rattle.std.proofs.lemmas.Option.{slice_get_cases}
 use Rattle.av_net.specs.declared.operation.Operand.{Operand}
@@ -19,8 +19,8 @@ use Rattle.av_clock.specs.Marked.{IsClear, has_kept, reads_same, touched}
 use Rattle.av_clock.specs.Marking.{IsSet, KeepsWord, AreTouched}
 use Rattle.av_clock.specs.Readers.{IsOther}
 use Rattle.av_clock.proofs.Lookup.{look_at, look_set, same_or_not}
-use Rattle.av_clock.proofs.Held.{targets_apart}
-use Rattle.av_clock.proofs.Marking.{cleared, clear_after, never}
+use Rattle.av_clock.proofs.Held.{SettlesMarked, targets_apart}
+use Rattle.av_clock.proofs.Marking.{never}
 use Rattle.av_clock.proofs.Readings.{name_at}
 
 -- ---- operands that keep their words
@@ -155,8 +155,11 @@ pub record SettlesTouched (m : Module) (before words : List ℕ) (old stale : Li
   pub clear : AreTouched m before words old stale
   pub few : count ≤ seen (named m before) (named m words) m.drives old drive
 
-pub touch_none : (m : Module) (words : List ℕ) (marks : List Bool) (drive : ℕ) → SettlesTouched m words words marks marks drive 0
-touch_none m words marks drive = record { ahead = λ k d le lt. refl; clear = λ k d lt clear same. clear; few = omega arith }
+-- the marked drives before this one are computed, no more than are touched and none before the first that is marked
+pub record SettlesAll (m : Module) (before words : List ℕ) (old stale due : List Bool) (drive count : ℕ) : Type 0 where
+  pub marked : SettlesMarked m before words stale due drive count
+  pub alone : (k : ℕ) → k ≤ length m.drives → ((j : ℕ) → j < k → IsClear old j) → count + k ≤ drive
+  pub touched : SettlesTouched m before words old stale drive count
 
 module _ (m : Module) (before words words' : List ℕ) (old stale stale' : List Bool) (drive next count : ℕ) (sound : IsSound m) (lt : drive < length m.drives) (there : drive < length stale) (marks : length old ≡ length m.drives)
     (marked : IsSet stale drive) (are : AreTouched m words words' stale stale') (others : (d : Drive) (name : List ℕ) → name ≢ (get_or m.drives drive d).target → named m words' name ≡ named m words name) (later : drive + 1 ≤ next)
@@ -218,11 +221,3 @@ written_touched m words place word stale stale' sound same lt changed others k d
     let was : v name ≡ get_or words place 0 = look_at (all_names m) words place name distinct same at in
     let now : named m (set words place word) name ≡ word = rw wrote (with_word_same v name word) in
     others name at k d below clear (kept_others v (named m (set words place word)) name (λ e. changed (sym was ∙ e ∙ now)) (get_or m.drives k d).operation kept)
-
--- a mark that is cleared before a write
-pub cleared_touched : (m : Module) (words words' : List ℕ) (stale lent stale' : List Bool) (drive : ℕ) → drive < length stale → lent ≡ set stale drive false → AreTouched m words words' lent stale' → AreTouched m words words' stale stale'
-cleared_touched m words words' stale lent stale' drive lt is are k d below clear kept =
-    are k d below (subst (λ (ms : List Bool). IsClear ms k) (sym is) (elim (cases_eq k drive) [
-      | inl e ↦ subst (IsClear (set stale drive false)) (sym e) (cleared stale drive lt)
-      | inr other ↦ clear_after stale drive k false other clear
-    ])) kept

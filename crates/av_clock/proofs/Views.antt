@@ -14,31 +14,25 @@ use Rattle.std.proofs.lemmas.Option.{slice_get-get_or, slice_get_within, slice_g
 use Rattle.av_base.specs.Words.{IsWord}
 use Rattle.av_net.specs.declared.netlist.Port.{Port}
 use Rattle.av_net.specs.declared.netlist.Drive.{Drive}
-use Rattle.av_net.specs.declared.netlist.Step.{Step}
 use Rattle.av_net.specs.declared.netlist.Module.{Module}
 use Rattle.av_net.specs.Meaning.{Words}
-use Rattle.av_net.specs.Names.{AreDistinct, names_of, given_names, wire_names, all_names, registers_of, width_of}
-use Rattle.av_net.specs.Settled.{Settled, Agree, Holds}
-use Rattle.av_net.specs.Clocked.{Edge}
+use Rattle.av_net.specs.Names.{AreDistinct, names_of, given_names, wire_names, all_names, width_of}
+use Rattle.av_net.specs.Settled.{Settled, Holds}
 use Rattle.av_net.specs.Sound.{IsSound}
 use Rattle.av_net.proofs.Cycles.{is_declared, register_contained}
 use Rattle.av_net.proofs.Declared.{declared_width, input_declared}
 use Rattle.av_net.proofs.Distinct.{apart, front_distinct}
 use Rattle.av_net.proofs.Settles.{with_word, with_word_same, with_word_other, names_distinct}
 use Rattle.av_clock.specs.Named.{named, AllFit}
-use Rattle.av_clock.specs.Gates.{AreTaken, FitRegisters}
 use Rattle.av_clock.specs.Seen.{Seen, carried}
 use Rattle.av_clock.specs.Marked.{IsClear, AreHeld, touched}
 use Rattle.av_clock.specs.inner.Engine.{IsWhole}
 use Rattle.av_clock.specs.Kept.{AreZero}
 use Rattle.av_clock.specs.Marking.{ReadTheSame}
-use Rattle.av_clock.proofs.Computing.{settled_zero, edge_zero}
-use Rattle.av_clock.proofs.Held.{given_apart}
+use Rattle.av_clock.proofs.Held.{given_apart, written_fit}
 use Rattle.av_clock.proofs.Marking.{none_clear}
 use Rattle.av_clock.proofs.Touched.{all_touched}
 use Rattle.av_clock.proofs.Lookup.{look_at, look_set, look_zero, contains_at}
-use Rattle.av_clock.proofs.Settling.{fit_with}
-use Rattle.av_clock.proofs.Edges.{next_fits, reset_fits}
 
 -- the words of a clock that was just made
 pub zeros_fit : (m : Module) (n : ℕ) → AllFit m (replicate n 0)
@@ -57,19 +51,6 @@ new_items v before new same is = with_items_is v new (same ∙ ap length is ∙ 
 -- there are as many
 pub size_call : (v : Vec ℕ Global) (before new : List ℕ) → length new ≡ length before → before ≡ v.items → length (with_items v new).items ≡ length v.items
 size_call v before new same is = ap length (new_items v before new same is) ∙ same ∙ ap length is
-
--- what such a call says of its slice holds of what is seen
-pub settled_call : (m : Module) (v : Vec ℕ Global) (before new : List ℕ) → length new ≡ length before → before ≡ v.items → Settled m (named m new) → Settled m (named m (with_items v new).items)
-settled_call m v before new same is h = let P : List ℕ → Type 0 = λ words. Settled m (named m words) in subst P (sym (new_items v before new same is)) h
-
--- and what it says of both
-pub agree_call : {ms : List Bool} (s : Seen) (m : Module) (v : Vec ℕ Global) (before new : List ℕ) (names : List (List ℕ)) (b : Bool) (w : ℕ) → record { of = m; words = v.items; settled = b; work = w; marked = ms } ≡ s → length new ≡ length before → before ≡ v.items
-    → Agree names (named m before) (named m new) → Agree names (carried s) (named m (with_items v new).items)
-agree_call s m v before new names b w view same is h =
-    let P : List ℕ → Type 0 = λ words. Agree names (named m v.items) (named m words) in
-    let Q : Seen → Type 0 = λ t. Agree names (carried t) (named m (with_items v new).items) in
-    let R : List ℕ → Type 0 = λ words. Agree names (named m words) (named m new) in
-    subst Q view (subst P (sym (new_items v before new same is)) (subst R is h))
 
 -- a port's place among all names
 pub port_at : (m : Module) (k : ℕ) (port : Port) → slice_get m.inputs k ≡ Some port → slice_get (all_names m) k ≡ Some port.name
@@ -100,14 +81,24 @@ pub port_set : (m : Module) (words : List ℕ) (k value : ℕ) (port : Port) →
 port_set m words k value port sound same at = look_set (all_names m) words k value port.name (names_distinct m sound) same (port_at m k port at)
 
 -- a word at a port fits
-pub set_fits : (m : Module) (words : List ℕ) (k value : ℕ) → IsSound m → length words ≡ length (all_names m) → k < length m.inputs → ForSome (slice_get m.inputs k) (λ port. IsWord port.width.bits value) → AllFit m words → AllFit m (set words k value)
-set_fits m words k value sound same lt fits fit = elim (slice_get_cases m.inputs k).1 [
+pub port_fits : (m : Module) (k value : ℕ) → IsSound m → k < length m.inputs → ForSome (slice_get m.inputs k) (λ port. IsWord port.width.bits value) → (name : List ℕ) → slice_get (all_names m) k ≡ Some name → IsWord (width_of m name) value
+port_fits m k value sound lt fits name at = elim (slice_get_cases m.inputs k).1 [
   | inl (port, within, found, here) ↦
-      let wrote = port_set m words k value port sound same found in
+      let same : port.name ≡ name = let e = sym (port_at m k port found) ∙ at in cc in
       let wide : width_of m port.name ≡ port.width.bits = declared_width m sound port (input_declared m port (k, lt, here)) in
-      rw wrote (fit_with (width_of m) (all_names m) (named m words) port.name value fit (rw wide (fits port found)))
+      subst (λ (other : List ℕ). IsWord (width_of m other) value) same (rw wide (fits port found))
   | inr (past, none) ↦ absurd (omega arith)
 ]
+
+-- and is there
+pub port_within : (m : Module) (words : List ℕ) (k : ℕ) → length words ≡ length (all_names m) → k < length m.inputs → k < length words
+port_within m words k same lt = elim (slice_get_cases m.inputs k).1 [
+  | inl (port, within, found, here) ↦ let there : k < length (all_names m) = slice_get_within (all_names m) k port.name (port_at m k port found) in omega arith
+  | inr (past, none) ↦ absurd (omega arith)
+]
+
+pub set_fits : (m : Module) (words : List ℕ) (k value : ℕ) → IsSound m → length words ≡ length (all_names m) → k < length m.inputs → ForSome (slice_get m.inputs k) (λ port. IsWord port.width.bits value) → AllFit m words → AllFit m (set words k value)
+set_fits m words k value sound same lt fits fit = written_fit m words k value sound same (port_within m words k same lt) (port_fits m k value sound lt fits) fit
 
 -- from each value that an option may hold
 if_some : {X : Type 0} (o : Option X) (P : X → Type 0) → ((x : X) → o ≡ Some x → P x) → IfSome o P
@@ -131,38 +122,6 @@ set_others s m words b w k value view sound same =
     let wrote = port_set m words k value port sound same (rw of at) in
     rw wrote (with_word_other (named m words) port.name value name other ∙ ap (λ (s : Seen). carried s name) view))
 
--- the words after an edge: `given` are the words that the registers take, `read` the same in the clock's own room
-pub edge_call : {ms : List Bool} (s : Seen) (m : Module) (v u : Vec ℕ Global) (reset b : Bool) (w : ℕ) (seen given room read lent new : List ℕ) → record { of = m; words = v.items; settled = b; work = w; marked = ms } ≡ s
-    → seen ≡ v.items → AreTaken m reset (named m seen) (length m.steps) given
-    → length given ≡ length room → room ≡ u.items → read ≡ (with_items u given).items
-    → length new ≡ length lent → lent ≡ v.items
-    → ((k : ℕ) → k < length m.steps → (d : Step) → named m new (get_or m.steps k d).register ≡ get_or read k 0)
-    → Edge m reset (carried s) (named m (with_items v new).items)
-edge_call s m v u reset b w seen given room read lent new view same taken long own is same' own' stored k d lt =
-    let register = (get_or m.steps k d).register in
-    let P : List ℕ → Type 0 = λ words. AreTaken m reset (named m words) (length m.steps) given in
-    let Q : Seen → Type 0 = λ t. AreTaken m reset (carried t) (length m.steps) given in
-    let taken' : AreTaken m reset (carried s) (length m.steps) given = subst Q view (subst P same taken) in
-    ap (λ words. named m words register) (new_items v lent new same' own') ∙ stored k lt d ∙ ap (λ words. get_or words k 0) (is ∙ new_items u room given long own) ∙ taken' k lt d
-
--- the words that the registers take fit them
-pub next_call : (m : Module) (v u : Vec ℕ Global) (seen given room read : List ℕ) → IsSound m → AllFit m v.items → seen ≡ v.items → AreTaken m false (named m seen) (length m.steps) given
-    → length given ≡ length room → room ≡ u.items → read ≡ (with_items u given).items → FitRegisters m read
-next_call m v u seen given room read sound fit same taken long own is =
-    let whole : read ≡ given = is ∙ new_items u room given long own in
-    rw whole (next_fits m seen given sound (rw same fit) taken)
-
--- and so do literals
-pub reset_call : (m : Module) (u : Vec ℕ Global) (given room read : List ℕ) → IsSound m → ((old : Words) → AreTaken m true old (length m.steps) given)
-    → length given ≡ length room → room ≡ u.items → read ≡ (with_items u given).items → FitRegisters m read
-reset_call m u given room read sound taken long own is =
-    let whole : read ≡ given = is ∙ new_items u room given long own in
-    rw whole (reset_fits m (λ name. 0) given sound (taken (λ name. 0)))
-
--- the words after a store fit
-pub fit_call : (m : Module) (v : Vec ℕ Global) (before new : List ℕ) → length new ≡ length before → before ≡ v.items → AllFit m new → AllFit m (with_items v new).items
-fit_call m v before new same is h = let P : List ℕ → Type 0 = AllFit m in subst P (sym (new_items v before new same is)) h
-
 -- a clock that says so is settled
 pub value_settled : {ms : List Bool} (s : Seen) (m : Module) (items : List ℕ) (b : Bool) (w : ℕ) → record { of = m; words = items; settled = b; work = w; marked = ms } ≡ s → (IsTrue b → Settled m (named m items)) → IsTrue s.settled → Settled s.of (carried s)
 value_settled s m items b w view settled flag =
@@ -181,40 +140,13 @@ port_seen s m items b w k view lt = let P : Seen → Type 0 = λ t. k < length t
 pub fits_seen : {ms : List Bool} (s : Seen) (m : Module) (items : List ℕ) (b : Bool) (w : ℕ) (k value : ℕ) → record { of = m; words = items; settled = b; work = w; marked = ms } ≡ s → ForSome (slice_get s.of.inputs k) (λ port. IsWord port.width.bits value) → ForSome (slice_get m.inputs k) (λ port. IsWord port.width.bits value)
 fits_seen s m items b w k value view fits = let P : Seen → Type 0 = λ t. ForSome (slice_get t.of.inputs k) (λ port. IsWord port.width.bits value) in subst P (sym view) fits
 
--- the words after one was written
-written_call : (v : Vec ℕ Global) (before new : List ℕ) (k value : ℕ) → length new ≡ length before → before ≡ v.items → new ≡ set before k value → (with_items v new).items ≡ set v.items k value
-written_call v before new k value same is wrote = new_items v before new same is ∙ wrote ∙ ap (λ ws. set ws k value) is
-
 -- what is seen after a word was set
-pub set_call : {ms ms' : List Bool} (s : Seen) (m : Module) (v : Vec ℕ Global) (before new : List ℕ) (b : Bool) (w : ℕ) (k value : ℕ) → record { of = m; words = v.items; settled = b; work = w; marked = ms } ≡ s
-    → length new ≡ length before → before ≡ v.items → new ≡ set before k value
-    → record { of = m; words = (with_items v new).items; settled = false; work = w; marked = ms' } ≡ record s { words = set s.words k value; settled = false; marked = ms' }
-set_call {ms' = ms'} s m v before new b w k value view same is wrote =
-    let P : Seen → Type 0 = λ t. record { of = m; words = (with_items v new).items; settled = false; work = w; marked = ms' } ≡ record t { words = set t.words k value; settled = false; marked = ms' } in
-    let F : List ℕ → Seen = λ ws. record { of = m; words = ws; settled = false; work = w; marked = ms' } in
-    subst P view (ap F (written_call v before new k value same is wrote))
-
--- the port has the word after it was
-pub set_port_call : {ms : List Bool} (s : Seen) (m : Module) (v : Vec ℕ Global) (before new : List ℕ) (b : Bool) (w : ℕ) (k value : ℕ) → record { of = m; words = v.items; settled = b; work = w; marked = ms } ≡ s → IsSound m → length v.items ≡ length (all_names m)
-    → length new ≡ length before → before ≡ v.items → new ≡ set before k value → IfSome (slice_get s.of.inputs k) (λ port. named m (with_items v new).items port.name ≡ value)
-set_port_call s m v before new b w k value view sound size same is wrote =
-    let P : List ℕ → Type 0 = λ ws. IfSome (slice_get s.of.inputs k) (λ port. named m ws port.name ≡ value) in
-    subst P (sym (written_call v before new k value same is wrote)) (set_port s m v.items b w k value view sound size)
-
--- and every other name its own
-pub set_others_call : {ms : List Bool} (s : Seen) (m : Module) (v : Vec ℕ Global) (before new : List ℕ) (b : Bool) (w : ℕ) (k value : ℕ) → record { of = m; words = v.items; settled = b; work = w; marked = ms } ≡ s → IsSound m → length v.items ≡ length (all_names m)
-    → length new ≡ length before → before ≡ v.items → new ≡ set before k value
-    → IfSome (slice_get s.of.inputs k) (λ port. (name : List ℕ) → name ≢ port.name → named m (with_items v new).items name ≡ carried s name)
-set_others_call s m v before new b w k value view sound size same is wrote =
-    let P : List ℕ → Type 0 = λ ws. IfSome (slice_get s.of.inputs k) (λ port. (name : List ℕ) → name ≢ port.name → named m ws name ≡ carried s name) in
-    subst P (sym (written_call v before new k value same is wrote)) (set_others s m v.items b w k value view sound size)
-
--- the words fit after it was
-pub set_fits_call : (m : Module) (v : Vec ℕ Global) (before new : List ℕ) (k value : ℕ) → IsSound m → length v.items ≡ length (all_names m) → k < length m.inputs → ForSome (slice_get m.inputs k) (λ port. IsWord port.width.bits value) → AllFit m v.items
-    → length new ≡ length before → before ≡ v.items → new ≡ set before k value → AllFit m (with_items v new).items
-set_fits_call m v before new k value sound size lt fits fit same is wrote =
-    let P : List ℕ → Type 0 = AllFit m in
-    subst P (sym (written_call v before new k value same is wrote)) (set_fits m v.items k value sound size lt fits fit)
+pub set_seen : {ms ms' : List Bool} (s : Seen) (m m' : Module) (words words' : List ℕ) (b : Bool) (w : ℕ) (k value : ℕ) → record { of = m; words = words; settled = b; work = w; marked = ms } ≡ s → m' ≡ m → words' ≡ set words k value
+    → record { of = m'; words = words'; settled = false; work = w; marked = ms' } ≡ record s { words = set s.words k value; settled = false; marked = ms' }
+set_seen {ms' = ms'} s m m' words words' b w k value view same wrote =
+    let P : Seen → Type 0 = λ t. record { of = m'; words = words'; settled = false; work = w; marked = ms' } ≡ record t { words = set t.words k value; settled = false; marked = ms' } in
+    let F : Module → List ℕ → Seen = λ n ws. record { of = n; words = ws; settled = false; work = w; marked = ms' } in
+    subst P view (ap (λ (n : Module). F n words') same ∙ ap (F m) wrote)
 
 -- what is not marked holds after it was
 pub set_held : (m : Module) (words : List ℕ) (k value : ℕ) (stale stale' due due' : List Bool) → IsSound m → length words ≡ length (all_names m) → k < length m.inputs
@@ -237,23 +169,6 @@ set_held m words k value stale stale' due due' sound size lt reads held = elim (
   | inr (past, none) ↦ absurd (omega arith)
 ]
 
-pub set_held_call : (m : Module) (v : Vec ℕ Global) (before new : List ℕ) (k value : ℕ) (stale stale' due due' : List Bool) → IsSound m → length v.items ≡ length (all_names m) → k < length m.inputs
-    → length new ≡ length before → before ≡ v.items → new ≡ set before k value → ReadTheSame m before new stale stale' due due' → AreHeld m v.items stale due → AreHeld m (with_items v new).items stale' due'
-set_held_call m v before new k value stale stale' due due' sound size lt same is wrote reads held =
-    let P : List ℕ → Type 0 = λ ws. AreHeld m ws stale' due' in
-    let Q : List ℕ → Type 0 = λ ws. ReadTheSame m v.items ws stale stale' due due' in
-    let R : List ℕ → Type 0 = λ ws. ReadTheSame m ws new stale stale' due due' in
-    let new' : new ≡ set v.items k value = wrote ∙ ap (λ ws. set ws k value) is in
-    subst P (sym (written_call v before new k value same is wrote)) (set_held m v.items k value stale stale' due due' sound size lt (subst Q new' (subst R is reads)) held)
-
--- what is not marked holds of the words that a call leaves
-pub held_call : (m : Module) (v : Vec ℕ Global) (before new : List ℕ) (stale due : List Bool) → length new ≡ length before → before ≡ v.items → AreHeld m new stale due → AreHeld m (with_items v new).items stale due
-held_call m v before new stale due same is held = let P : List ℕ → Type 0 = λ ws. AreHeld m ws stale due in subst P (sym (new_items v before new same is)) held
-
--- and of those that it is lent
-pub held_lent : (m : Module) (v : Vec ℕ Global) (before : List ℕ) (stale due : List Bool) → before ≡ v.items → AreHeld m v.items stale due → AreHeld m before stale due
-held_lent m v before stale due is held = let P : List ℕ → Type 0 = λ ws. AreHeld m ws stale due in subst P (sym is) held
-
 -- all holds of settled words where all steps are marked
 pub settled_held : (m : Module) (words : List ℕ) (stale due : List Bool) (n : ℕ) → due ≡ replicate n true → Settled m (named m words) → AreHeld m words stale due
 settled_held m words stale due n filled settled = record {
@@ -271,15 +186,6 @@ anew_held m words false stale stale' due due' new kept held settled = let k = ke
 pub anew_size : (dense mark : Bool) (marks marks' : List Bool) → (IsTrue dense → marks' ≡ replicate (length marks) mark) → (dense ≡ false → marks' ≡ marks) → length marks' ≡ length marks
 anew_size true mark marks marks' new kept = ap length (new refl) ∙ length-replicate (length marks) mark
 anew_size false mark marks marks' new kept = ap length (kept refl)
-
--- an edge, of what is seen
-pub edge_seen : {ms : List Bool} (s : Seen) (m : Module) (v : Vec ℕ Global) (before new : List ℕ) (reset b : Bool) (w : ℕ) → record { of = m; words = v.items; settled = b; work = w; marked = ms } ≡ s → length new ≡ length before → before ≡ v.items
-    → Edge m reset (named m before) (named m new) → Edge m reset (carried s) (named m (with_items v new).items)
-edge_seen s m v before new reset b w view same is edge =
-    let P : List ℕ → Type 0 = λ words. Edge m reset (named m v.items) (named m words) in
-    let Q : Seen → Type 0 = λ t. Edge m reset (carried t) (named m (with_items v new).items) in
-    let R : List ℕ → Type 0 = λ words. Edge m reset (named m words) (named m new) in
-    subst Q view (subst P (sym (new_items v before new same is)) (subst R is edge))
 
 -- a count that is added to none
 pub first_count : (old count new : ℕ) → new ≡ min (old + count) (2 ^ 64 - 1) → new ≡ 0 → count ≡ 0
@@ -328,18 +234,14 @@ pub few_computed : (old count new n k : ℕ) → new ≡ min (old + count) (2 ^ 
 few_computed old count new n k is few = omega (arith, is, few)
 
 -- what a settle computes is touched, of what is seen
-pub touched_call : (s : Seen) (m : Module) (v : Vec ℕ Global) (before new : List ℕ) (b dense : Bool) (w : ℕ) (stale : List Bool) (count next : ℕ)
-    → record { of = m; words = v.items; settled = b; work = w; marked = if dense then replicate (length m.drives) true else stale } ≡ s → dense ≡ false → length new ≡ length before → before ≡ v.items
-    → next ≡ min (w + count) (2 ^ 64 - 1) → count ≤ touched (named m before) (named m new) m.drives stale
-    → next ≤ s.work + touched (carried s) (named m (with_items v new).items) s.of.drives s.marked
-touched_call s m v before new b dense w stale count next view e same is sum few =
-    let P : Seen → Type 0 = λ t. next ≤ t.work + touched (carried t) (named m (with_items v new).items) t.of.drives t.marked in
-    let Q : List Bool → Type 0 = λ ms. next ≤ w + touched (named m v.items) (named m (with_items v new).items) m.drives ms in
-    let R : List ℕ → Type 0 = λ ws. next ≤ w + touched (named m v.items) (named m ws) m.drives stale in
-    let S : List ℕ → Type 0 = λ ws. next ≤ w + touched (named m ws) (named m new) m.drives stale in
-    let base : S before = omega (arith, sum, few) in
+pub touched_seen : (s : Seen) (m : Module) (words : List ℕ) (v : Words) (b dense : Bool) (w : ℕ) (stale : List Bool) (count next : ℕ)
+    → record { of = m; words = words; settled = b; work = w; marked = if dense then replicate (length m.drives) true else stale } ≡ s → dense ≡ false
+    → next ≡ min (w + count) (2 ^ 64 - 1) → count ≤ touched (named m words) v m.drives stale → next ≤ s.work + touched (carried s) v s.of.drives s.marked
+touched_seen s m words v b dense w stale count next view e sum few =
+    let P : Seen → Type 0 = λ t. next ≤ t.work + touched (carried t) v t.of.drives t.marked in
+    let Q : List Bool → Type 0 = λ ms. next ≤ w + touched (named m words) v m.drives ms in
     let own = ap (λ (t : Bool). if t then replicate (length m.drives) true else stale) e in
-    subst P view (subst Q (sym own) (subst R (sym (new_items v before new same is)) (subst S is base)))
+    subst P view (subst Q (sym own) (omega (arith, sum, few)))
 
 -- and all are, where all are marked
 pub all_count : (s : Seen) (v : Words) (old count next : ℕ) → next ≡ min (old + count) (2 ^ 64 - 1) → old ≡ s.work → count ≡ length s.of.drives → s.marked ≡ replicate (length s.of.drives) true
@@ -349,19 +251,6 @@ all_count s v old count next sum work all filled =
     (let e = all_touched (carried s) v s.of.drives in omega (arith, sum, work, all, e))
 
 -- ---- words of the constant 0
-
--- of the words that a call is lent
-pub zero_lent : (m : Module) (v : Vec ℕ Global) (before : List ℕ) → before ≡ v.items → AreZero m v.items → AreZero m before
-zero_lent m v before is zeros = subst (AreZero m) (sym is) zeros
-
--- of settled words that a call leaves
-pub zero_settled : (m : Module) (v : Vec ℕ Global) (before new : List ℕ) → length new ≡ length before → before ≡ v.items → Settled m (named m new) → AreZero m (with_items v new).items
-zero_settled m v before new same is settled = subst (AreZero m) (sym (new_items v before new same is)) (settled_zero m new settled)
-
--- of the words after an edge
-pub zero_edge : (m : Module) (v : Vec ℕ Global) (before new : List ℕ) → IsSound m → length new ≡ length before → before ≡ v.items → ((name : List ℕ) → (Contains (registers_of m.steps) name → ⊥) → named m new name ≡ named m before name)
-    → AreZero m v.items → AreZero m (with_items v new).items
-zero_edge m v before new sound same is others zeros = subst (AreZero m) (sym (new_items v before new same is)) (edge_zero m before new sound others (zero_lent m v before is zeros))
 
 -- and of those after a word was set at a port
 pub set_zero : (m : Module) (words : List ℕ) (k value : ℕ) → IsSound m → length words ≡ length (all_names m) → k < length m.inputs → AreZero m words → AreZero m (set words k value)
@@ -376,10 +265,6 @@ set_zero m words k value sound size lt zeros = elim (slice_get_cases m.inputs k)
       ∙ zeros i d below zero')
   | inr (past, none) ↦ absurd (omega arith)
 ]
-
-pub zero_set : (m : Module) (v : Vec ℕ Global) (before new : List ℕ) (k value : ℕ) → IsSound m → length v.items ≡ length (all_names m) → k < length m.inputs → length new ≡ length before → before ≡ v.items → new ≡ set before k value
-    → AreZero m v.items → AreZero m (with_items v new).items
-zero_set m v before new k value sound size lt same is wrote zeros = subst (AreZero m) (sym (written_call v before new k value same is wrote)) (set_zero m v.items k value sound size lt zeros)
 
 -- ---- a word that is read
 

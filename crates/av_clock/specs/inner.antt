@@ -3,5 +3,7 @@ pub mod Resolver
 pub mod Sources
 pub mod Keys
 pub mod Choices
+pub mod Computed
+pub mod State
 pub mod Engine
 pub mod Sourced

@@ -9,9 +9,8 @@ ghost use Rattle.av_clock.specs.Seen.{carried};
 ghost use Rattle.av_clock.specs.inner.Engine.{IsWhole};
 ghost use Rattle.av_clock.specs.Merged.{merged as merged_module, IsMerging};
 
-use crate::circuit::Circuit;
-use crate::marks::{Marks, mark_anew};
 use crate::merged::Merged;
+use crate::state::State;
 use av_base::Memory;
 use av_net::Module;
 use std::alloc::Global;
@@ -20,55 +19,11 @@ use std::marker::Model;
 // The ticks between two at which changed registers are counted.
 const UNCOUNTED_TICKS: u32 = 15;
 
-// The words and the marks of a circuit that was not clocked yet.
-#[derive(Drop)]
-struct Buffers {
-    words: Vec<u64>,
-    next: Vec<u64>,
-    taken: Vec<usize>,
-    stale: Marks,
-    due: Marks,
-}
-
-impl Buffers {
-    fn new(alloc: Global, circuit: &Circuit<'_>) -> Result<Buffers, Memory>
-        ensures words { IfOk result (λ buffers.
-            buffers.words.items ≡ replicate (length (all_names circuit.now)) 0) }
-        ensures next { IfOk result (λ buffers.
-            length buffers.next.items ≡ length circuit.now.steps) }
-        ensures taken { IfOk result (λ buffers.
-            length buffers.taken.items ≡ length circuit.now.steps) }
-        ensures stale { IfOk result (λ buffers. length buffers.stale ≡ length circuit.now.drives) }
-        ensures due { IfOk result (λ buffers. length buffers.due ≡ length circuit.now.steps) }
-    {
-        let words = vec![in alloc; 0u64; circuit.size()]?;
-        let next = vec![in alloc; 0u64; circuit.steps()]?;
-        let taken = vec![in alloc; 0usize; circuit.steps()]?;
-        let stale = Marks::new(alloc, circuit.drives())?;
-        let due = Marks::new(alloc, circuit.steps())?;
-        Ok(Buffers {
-            words,
-            next,
-            taken,
-            stale,
-            due,
-        })
-    }
-}
-
 /// A module that is clocked as it stands: each of its drives is computed, but those of the constant 0.
 #[derive(Drop)]
 pub(crate) struct Engine<'a> {
-    circuit: Circuit<'a>,
-    // The words of all names, in the order of declarations.
-    words: Vec<u64>,
-    // Room for the registers' next words, and for the steps that are taken.
-    next: Vec<u64>,
-    taken: Vec<usize>,
-    // The drives and the steps of which an operand changed.
-    stale: Marks,
-    due: Marks,
-    // All drives are marked, whatever `stale` says, and each settle computes them.
+    state: State<'a>,
+    // All drives are marked, whatever the state's marks say, and each settle computes them.
     dense: bool,
     // The last settle by marks computed more than a third of what a settle of all drives takes.
     busy: bool,
@@ -103,15 +58,9 @@ impl<'a> Engine<'a> {
         ensures marked { IfOk result (λ engine. engine.marked
             ≡ replicate (length (merged_module of.now merged.sources.items).drives) true) }
     {
-        let circuit = Circuit::new(alloc, of, merged)?;
-        let buffers = Buffers::new(alloc, &circuit)?;
+        let state = State::new(alloc, of, merged)?;
         Ok(Engine {
-            circuit,
-            words: buffers.words,
-            next: buffers.next,
-            taken: buffers.taken,
-            stale: buffers.stale,
-            due: buffers.due,
+            state,
             dense: true,
             busy: true,
             uncounted: 0,
@@ -140,10 +89,8 @@ impl<'a> Engine<'a> {
             self.settle_all();
             return;
         }
-        let computed = self
-            .circuit
-            .settle_marked(&mut self.words, &mut self.stale, &mut self.due);
-        self.busy = computed > self.circuit.dense_work() / 3;
+        let computed = self.state.settle_marked();
+        self.busy = computed > self.state.circuit.dense_work() / 3;
         self.work = self.work.saturating_add(computed as u64);
         self.settled = true;
     }
@@ -164,9 +111,9 @@ impl<'a> Engine<'a> {
         ensures touched { self.new.work ≤ self.old.work
             + touched (carried self.old) (carried self.new) self.old.of.drives self.old.marked }
     {
-        self.circuit.settle(&mut self.words);
+        self.state.settle();
         self.dense = true;
-        self.work = self.work.saturating_add(self.circuit.drives() as u64);
+        self.work = self.work.saturating_add(self.state.circuit.drives() as u64);
         self.settled = true;
     }
 
@@ -199,7 +146,7 @@ impl<'a> Engine<'a> {
         ensures { (d : _) → slice_get (all_names self.now.of) result
             ≡ Some (slice_index_or self.now.of.drives drive d).target }
     {
-        self.circuit.target(drive)
+        self.state.circuit.target(drive)
     }
 
     /// The word at a place.
@@ -210,7 +157,7 @@ impl<'a> Engine<'a> {
             → IsWord (width_of self.now.of name) result }
         ensures settled { IsTrue self.now.settled → Settled self.now.of (carried self.now) }
     {
-        self.words[place]
+        self.state.words[place]
     }
 
     /// Presents a value at an input port, by its place in the module's `inputs`.
@@ -228,14 +175,7 @@ impl<'a> Engine<'a> {
         ensures others { IfSome (slice_get self.old.of.inputs port) (λ p. (name : Items ℕ)
             → name ≢ p.name → carried self.new name ≡ carried self.old name) }
     {
-        self.circuit.present(
-            self.dense,
-            port as usize,
-            value,
-            &mut self.words,
-            &mut self.stale,
-            &mut self.due,
-        );
+        self.state.present(self.dense, port as usize, value);
         self.settled = false;
     }
 
@@ -268,9 +208,7 @@ impl<'a> Engine<'a> {
             return false;
         }
         self.uncounted = UNCOUNTED_TICKS;
-        self.circuit.next_words(&self.words, &mut self.next);
-        let changed = self.circuit.changed(&self.words, &self.next);
-        changed > self.circuit.steps() / 4
+        self.state.changed() > self.state.circuit.steps() / 4
     }
 
     // The same by the marked steps alone.
@@ -282,15 +220,8 @@ impl<'a> Engine<'a> {
         ensures flag { self.new.settled ≡ false }
         ensures work { self.new.work ≡ self.old.work }
     {
-        mark_anew(self.dense, &mut self.stale, &mut self.due);
+        self.state.tick_marked(self.dense);
         self.dense = false;
-        self.circuit.tick_marked(
-            &mut self.words,
-            &mut self.next,
-            &mut self.taken,
-            &mut self.stale,
-            &mut self.due,
-        );
         self.settled = false;
     }
 
@@ -303,8 +234,7 @@ impl<'a> Engine<'a> {
         ensures flag { self.new.settled ≡ false }
         ensures work { self.new.work ≡ self.old.work }
     {
-        self.circuit.next_words(&self.words, &mut self.next);
-        self.circuit.store(&self.next, &mut self.words);
+        self.state.tick_all();
         self.dense = true;
         self.settled = false;
     }
@@ -317,13 +247,7 @@ impl<'a> Engine<'a> {
         ensures flag { self.new.settled ≡ false }
         ensures work { self.new.work ≡ self.old.work }
     {
-        self.circuit.reset(
-            &mut self.words,
-            &mut self.next,
-            &mut self.taken,
-            &mut self.stale,
-            &mut self.due,
-        );
+        self.state.reset();
         self.settled = false;
     }
 }

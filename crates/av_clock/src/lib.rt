@@ -12,6 +12,7 @@ mod merged;
 mod readers;
 mod resolver;
 mod sourced;
+mod state;
 
 pub use circuit::Circuit;
 pub use clock::Clock;

@@ -1,4 +1,4 @@
-use Rattle.std.proofs.Common.{refl, get_or, length, sym, subst}
+use Rattle.std.proofs.Common.{get_or, length, sym, subst}
 use Rattle.av_net.specs.Names.{all_names}
 use Rattle.av_net.proofs.Settles.{names_distinct}
 use Rattle.av_clock.specs.Gates.{AreStepped}
@@ -11,13 +11,13 @@ use Rattle.av_clock.proofs.readers.steps_reading.Goals as goal
 pub enter_reading-requires : goal.enter_reading-requires
 enter_reading-requires c =
     let net = merged c.args.of.now c.args.merged.now.sources.items in
-    let for = for_read net net c.deref-flip_flop-items.result.now c.args.merged.now.flip_flops.items c.loop-i.i refl c.deref-flip_flop-items.ensures.value c.requires.flip_flops c.loop-i-test.true in
+    let for = for_read net c.deref-flip_flop-items.result.now c.loop-i.i (subst (AreStepped net (length net.steps)) (sym c.deref-flip_flop-items.ensures.value) c.requires.flip_flops) c.loop-i-test.true in
     reading_within (all_names net) _ for.step.next (get_or c.deref-flip_flop-items.result.now c.loop-i.i no_flip_flop).next c.loop-i.invariant.count for.stepped.next
 
 pub loop-i-preserved : goal.loop-i-preserved
 loop-i-preserved c =
     let net = merged c.args.of.now c.args.merged.now.sources.items in
-    let for = for_read net net c.deref-flip_flop-items.result.now c.args.merged.now.flip_flops.items c.loop-i.i refl c.deref-flip_flop-items.ensures.value c.requires.flip_flops c.loop-i-test.true in
+    let for = for_read net c.deref-flip_flop-items.result.now c.loop-i.i (subst (AreStepped net (length net.steps)) (sym c.deref-flip_flop-items.ensures.value) c.requires.flip_flops) c.loop-i-test.true in
     steps_more net c.loop-i.i for.step c.loop-i.lists.items c.enter_reading.new.lists.items c.requires.safe for.within for.at
     (c.in_ok-enter_reading.ensures.entered (all_names net) for.step.next (names_distinct net c.requires.safe) c.loop-i.invariant.count for.stepped.next) c.loop-i.invariant
 

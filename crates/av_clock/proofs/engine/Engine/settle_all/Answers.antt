@@ -1,43 +1,39 @@
 use Rattle.std.proofs.Common.{◌≡◌, ◌∙◌, ap, sym, subst, ℕ, ◌+◌, ◌≤◌, length, false, true}
-use Rattle.av_clock.specs.Seen.{Seen}
-use Rattle.av_clock.proofs.Views.{agree_call, settled_call, size_call, fit_call, first_count, all_computed, all_count, zero_lent, zero_settled}
+use Rattle.av_net.specs.declared.netlist.Module.{Module}
+use Rattle.av_net.specs.Names.{given_names}
+use Rattle.av_net.specs.Settled.{Agree}
+use Rattle.av_net.specs.Sound.{IsSound}
+use Rattle.av_clock.specs.Seen.{Seen, carried}
+use Rattle.av_clock.specs.inner.State.{named_words}
+use Rattle.av_clock.proofs.Computing.{settled_zero}
+use Rattle.av_clock.proofs.Views.{first_count, all_computed, all_count}
 use Rattle.av_clock.proofs.engine.Engine.settle_all.Goals as goal
 
-pub settle-requires-clause-zeros : goal.settle-requires-clause-zeros
-settle-requires-clause-zeros c = zero_lent c.self.inside.circuit c.self.inside.words _ c.deref_mut.ensures.value c.self.invariant.zeros
-
-pub returns-clause-settled : goal.returns-clause-settled
-returns-clause-settled c = settled_call c.self.inside.circuit c.self.inside.words _ c.settle.new.words c.settle.auto.words c.deref_mut.ensures.value c.settle.ensures.settled
-
 pub returns-clause-given : goal.returns-clause-given
-returns-clause-given c =
-    agree_call c.args.self.now c.self.inside.circuit c.self.inside.words _ c.settle.new.words _ c.self.inside.settled c.self.inside.work c.self.view_is c.settle.auto.words c.deref_mut.ensures.value c.settle.ensures.given
+returns-clause-given c = subst (λ (s : Seen). Agree (given_names c.settle.new.self.circuit) (carried s) (named_words c.settle.new.self)) c.self.view_is c.settle.ensures.given
 
 pub returns-clause-alone : goal.returns-clause-alone
 returns-clause-alone c = λ k few clear.
     let s : Seen = c.args.self.now in
     let work = ap (λ (t : Seen). t.work) c.self.view_is in
-    let count = ap (λ (t : Seen). length t.of.drives) c.self.view_is in
+    let count = c.drives.ensures ∙ ap (λ (m : Module). length m.drives) c.settle.ensures.circuit ∙ ap (λ (t : Seen). length t.of.drives) c.self.view_is in
     subst (λ (n : ℕ). c.saturating_add-self-inside.result + k ≤ n + length s.of.drives) work
-    (all_computed c.self.inside.work c.drives.result c.saturating_add-self-inside.result (length s.of.drives) k s.marked c.saturating_add-self-inside.ensures (c.drives.ensures ∙ count) c.requires few clear)
+    (all_computed c.self.inside.work c.drives.result c.saturating_add-self-inside.result (length s.of.drives) k s.marked c.saturating_add-self-inside.ensures count c.requires few clear)
 
 pub returns-clause-touched : goal.returns-clause-touched
 returns-clause-touched c =
     all_count c.args.self.now _ c.self.inside.work c.drives.result c.saturating_add-self-inside.result c.saturating_add-self-inside.ensures (ap (λ (t : Seen). t.work) c.self.view_is)
-    (c.drives.ensures ∙ ap (λ (t : Seen). length t.of.drives) c.self.view_is) c.requires
+    (c.drives.ensures ∙ ap (λ (m : Module). length m.drives) c.settle.ensures.circuit ∙ ap (λ (t : Seen). length t.of.drives) c.self.view_is) c.requires
 
 pub invariant_of-self : goal.invariant_of-self
-invariant_of-self c = record {
-  sound = c.self.invariant.sound;
-  size = size_call c.self.inside.words _ c.settle.new.words c.settle.auto.words c.deref_mut.ensures.value ∙ c.self.invariant.size;
-  fit = fit_call c.self.inside.circuit c.self.inside.words _ c.settle.new.words c.settle.auto.words c.deref_mut.ensures.value c.settle.ensures.fit;
-  settled = λ flag. settled_call c.self.inside.circuit c.self.inside.words _ c.settle.new.words c.settle.auto.words c.deref_mut.ensures.value c.settle.ensures.settled;
-  zeros = zero_settled c.self.inside.circuit c.self.inside.words _ c.settle.new.words c.settle.auto.words c.deref_mut.ensures.value c.settle.ensures.settled;
-  next = c.self.invariant.next;
-  taken = c.self.invariant.taken;
-  stale = c.self.invariant.stale;
-  due = c.self.invariant.due;
-  held = λ some. absurd (let e : true ≡ false = some in cc);
-  first = λ none some. sym c.drives.ensures ∙ first_count c.self.inside.work c.drives.result c.saturating_add-self-inside.result c.saturating_add-self-inside.ensures none;
-  shown = λ none flag. sym c.drives.ensures ∙ first_count c.self.inside.work c.drives.result c.saturating_add-self-inside.result c.saturating_add-self-inside.ensures none;
-}
+invariant_of-self c =
+    let t = c.settle.new.self in
+    let none_there : c.saturating_add-self-inside.result ≡ 0 → length t.circuit.drives ≡ 0 = λ none. sym c.drives.ensures ∙ first_count c.self.inside.work c.drives.result c.saturating_add-self-inside.result c.saturating_add-self-inside.ensures none in
+    record {
+      sound = subst IsSound (sym c.settle.ensures.circuit) c.self.invariant.sound;
+      settled = λ flag. c.settle.ensures.settled;
+      zeros = settled_zero t.circuit t.words.items c.settle.ensures.settled;
+      held = λ some. absurd (let e : true ≡ false = some in cc);
+      first = λ none some. none_there none;
+      shown = λ none flag. none_there none;
+    }
