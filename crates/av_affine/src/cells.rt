@@ -5,9 +5,8 @@ ghost use Rattle.av_affine.specs.Numbers.{AtMost, four};
 ghost use Rattle.av_affine.specs.Squares.{square_of};
 ghost use Rattle.av_affine.specs.Cells.{delta, skip, IsAmong, one_cell, two_cell, completed_cell, one_inverse, two_solved, two_inverse, inverse_cell, turn};
 
-use crate::Square;
 use crate::pivot::{Pivot, nth_other};
-use std::array;
+use crate::{Square, four};
 
 // The product of small numbers.
 fn product(a: i64, b: i64) -> i64
@@ -89,7 +88,7 @@ fn completed_row(vector: &[i64], pivot: &Pivot, row: usize) -> [i64; 4]
         then completed_cell pivot.now vector.now row index
         else pos 0) }
 {
-    array::from_fn(|index| completed_at(vector, pivot, row, index))
+    four!(index => completed_at(vector, pivot, row, index))
 }
 
 /// The completed matrix.
@@ -98,10 +97,9 @@ pub(crate) fn completed(vector: &[i64], pivot: &Pivot) -> Square
     requires pivot { IsAmong (length vector.now) pivot.now }
     ensures { result ≡ square_of (length vector.now) (completed_cell pivot.now vector.now) }
 {
-    let row = |index| completed_row(vector, pivot, index);
     Square {
         size: vector.len() as u8,
-        cells: [row(0), row(1), row(2), row(3)],
+        cells: four!(row => completed_row(vector, pivot, row)),
     }
 }
 
@@ -234,8 +232,7 @@ fn inverse_row(vector: &[i64], pivot: &Pivot, row: usize) -> [i64; 4]
         then inverse_cell pivot.now vector.now row index
         else pos 0) }
 {
-    let cell = |index| inverse_at(vector, pivot, row, index);
-    [cell(0), cell(1), cell(2), cell(3)]
+    four!(index => inverse_at(vector, pivot, row, index))
 }
 
 /// The inverse of the completed matrix.
@@ -245,9 +242,8 @@ pub(crate) fn inverted(vector: &[i64], pivot: &Pivot) -> Square
     requires pivot { IsAmong (length vector.now) pivot.now }
     ensures { result ≡ square_of (length vector.now) (inverse_cell pivot.now vector.now) }
 {
-    let row = |index| inverse_row(vector, pivot, index);
     Square {
         size: vector.len() as u8,
-        cells: [row(0), row(1), row(2), row(3)],
+        cells: four!(row => inverse_row(vector, pivot, row)),
     }
 }

@@ -6,7 +6,7 @@ ghost use Rattle.av_affine.specs.Forms.{IsWithinLimits};
 ghost use Rattle.av_affine.specs.Maps.{coefficients_of, constants_of, through, composition, greatest_coefficient, greatest_constant};
 
 use crate::form::products;
-use crate::{Form, Map, Rows};
+use crate::{Form, Map, Rows, four};
 use arrayvec::ArrayVec;
 
 // The coefficients that the forms have for one index.
@@ -61,13 +61,10 @@ pub(crate) fn inward(form: &Form, inner: &Map) -> Form
     ensures coefficients { AtMost (2 ^ 32) result.coef }
     ensures constant { unsigned_abs result.constant ≤ 2 ^ 33 }
 {
-    let a = coefficient(form, inner, 0);
-    let b = coefficient(form, inner, 1);
-    let c = coefficient(form, inner, 2);
-    let d = coefficient(form, inner, 3);
+    let coef = four!(index => coefficient(form, inner, index));
     let constant = products(form.coef, constants(inner.rows.as_slice()).as_slice());
     Form {
-        coef: [a, b, c, d],
+        coef,
         constant: constant + form.constant,
     }
 }

@@ -4,6 +4,8 @@ ghost use Rattle.std.specs.Prelude.{ℕ, ◌≡◌, ◌≤◌, ◌<ℤ◌, pos, 
 ghost use Rattle.std.specs.Int.{IsGcd, int_div_euclid};
 ghost use Rattle.av_affine.specs.Numbers.{AtMost, IsGcdOf};
 
+use crate::four;
+
 /// The greatest common divisor of two numbers, 0 of 0 and 0 (Euclid).
 pub fn gcd(a: u64, b: u64) -> u64
     ensures gcd { IsGcd a b result }
@@ -36,9 +38,5 @@ pub fn coefficients_over(coef: [i64; 4], divisor: i64) -> [i64; 4]
     requires { pos 0 <ℤ divisor }
     ensures { result ≡ map (λ x. int_div_euclid x divisor) coef }
 {
-    let a = coef[0].div_euclid(divisor);
-    let b = coef[1].div_euclid(divisor);
-    let c = coef[2].div_euclid(divisor);
-    let d = coef[3].div_euclid(divisor);
-    [a, b, c, d]
+    four!(index => coef[index].div_euclid(divisor))
 }

@@ -7,6 +7,7 @@ mod completion;
 mod compose;
 mod divisor;
 mod form;
+mod four;
 mod inner_product;
 mod map;
 mod pivot;

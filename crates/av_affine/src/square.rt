@@ -3,8 +3,8 @@ ghost use Rattle.av_affine.specs.Numbers.{dot, AtMost, four};
 ghost use Rattle.av_affine.specs.Squares.{row_of, column_of, product, identity};
 
 use crate::form::products;
+use crate::four;
 use arrayvec::ArrayVec;
-use std::array;
 
 /// A square matrix of at most four rows.
 ///
@@ -22,10 +22,9 @@ pub fn multiply(a: &Square, b: &Square) -> Square
     requires second { All (AtMost 1024) b.now.cells }
     ensures { result ≡ product a.now b.now }
 {
-    let row = |index| product_row(a, b, index);
     Square {
         size: a.size,
-        cells: [row(0), row(1), row(2), row(3)],
+        cells: four!(row => product_row(a, b, row)),
     }
 }
 
@@ -80,7 +79,7 @@ fn product_row(a: &Square, b: &Square, row: usize) -> [i64; 4]
         then dot (row_of row a.now) (column_of index b.now)
         else pos 0) }
 {
-    array::from_fn(|index| product_cell(a, b, row, index))
+    four!(index => product_cell(a, b, row, index))
 }
 
 // The identity's cell, and 0 past its rows and columns.
@@ -104,16 +103,15 @@ fn unit_row(size: u8, row: usize) -> [i64; 4]
         then (if nat_eq row index then pos 1 else pos 0)
         else pos 0) }
 {
-    array::from_fn(|index| unit_cell(size, row, index))
+    four!(index => unit_cell(size, row, index))
 }
 
 // The identity.
 fn unit_matrix(size: u8) -> Square
     ensures { result ≡ identity size }
 {
-    let row = |index| unit_row(size, index);
     Square {
         size,
-        cells: [row(0), row(1), row(2), row(3)],
+        cells: four!(row => unit_row(size, row)),
     }
 }

@@ -8,7 +8,7 @@ ghost use Rattle.av_elim.specs.inner.Rows.{line, factor, Small, StandsFor};
 ghost use Rattle.av_elim.specs.inner.Step.{combination, pairs_of, eliminated};
 
 use crate::merge::add;
-use av_affine::Form;
+use av_affine::{Form, four};
 use av_base::{List, Memory};
 use std::alloc::Global;
 
@@ -75,20 +75,14 @@ fn combined(below: &Form, above: &Form, other: usize) -> Form
     requires above { Small (2 ^ 21) (line above.now) }
     ensures { line result ≡ combination (suc other) (line below.now) (line above.now) }
 {
-    let a = coefficient(below, above, other, 0);
-    let b = coefficient(below, above, other, 1);
-    let c = coefficient(below, above, other, 2);
-    let d = coefficient(below, above, other, 3);
+    let coef = four!(index => coefficient(below, above, other, index));
     let constant = small_number(
         below.coef[other],
         above.coef[other],
         below.constant,
         above.constant,
     );
-    Form {
-        coef: [a, b, c, d],
-        constant,
-    }
+    Form { coef, constant }
 }
 
 // Adds the combinations of a row with each row that bounds the index from above.

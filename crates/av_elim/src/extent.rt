@@ -9,6 +9,7 @@ ghost use Rattle.av_elim.specs.Extents.{IsOrdinary, IsInside};
 ghost use Rattle.av_elim.specs.inner.Clamped.{clamp};
 
 use crate::{Elim, bounds};
+use av_affine::four;
 use av_base::Memory;
 use av_base::limits::MOST_COORDINATE;
 use av_poly::{Bounds, Poly, normalised_copy};
@@ -27,11 +28,7 @@ fn nearest(number: i128) -> i128
 fn nearest_of(numbers: [i128; 4]) -> [i128; 4]
     ensures { result ≡ map clamp numbers }
 {
-    let a = nearest(numbers[0]);
-    let b = nearest(numbers[1]);
-    let c = nearest(numbers[2]);
-    let d = nearest(numbers[3]);
-    [a, b, c, d]
+    four!(index => nearest(numbers[index]))
 }
 
 // The box without what is above 4,095.

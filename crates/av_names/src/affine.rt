@@ -13,7 +13,7 @@ ghost use Rattle.av_names.specs.inner.ShortSums.{AreShort, HasShortTerms};
 
 use crate::part::Context;
 use crate::sums::{coefficient, coefficient_between, constant, constant_between};
-use av_affine::{Form, Map, Rows};
+use av_affine::{Form, Map, Rows, four};
 use av_base::{List, Memory, Name};
 use av_poly::Poly;
 use av_table::NameMap;
@@ -62,12 +62,8 @@ fn form(sizes: &NameMap<'_, i64>, names: &[Name], index: &IndexExpr) -> Form
     ensures { result ≡ form_of (sizes_in sizes.now) names.now index.now }
 {
     let terms = index.terms.as_slice();
-    let first = small(entry(names, terms, 0));
-    let second = small(entry(names, terms, 1));
-    let third = small(entry(names, terms, 2));
-    let fourth = small(entry(names, terms, 3));
     Form {
-        coef: [first, second, third, fourth],
+        coef: four!(index => small(entry(names, terms, index))),
         constant: small(constant(sizes, names, terms)),
     }
 }
@@ -81,11 +77,7 @@ fn coefficients_between(names: &[Name], left: &[Term], right: &[Term]) -> [i64; 
     ensures { result ≡ forms.filled (map
         (λ name. rows.coefficient left.now name -ℤ rows.coefficient right.now name) names.now) }
 {
-    let first = small(entry_between(names, left, right, 0));
-    let second = small(entry_between(names, left, right, 1));
-    let third = small(entry_between(names, left, right, 2));
-    let fourth = small(entry_between(names, left, right, 3));
-    [first, second, third, fourth]
+    four!(index => small(entry_between(names, left, right, index)))
 }
 
 /// The constant of one side without the other and the gap.

@@ -7,6 +7,7 @@ ghost use Rattle.av_poly.specs.Points.{Has};
 ghost use Rattle.av_poly.specs.Search.{IsBetween};
 ghost use Rattle.av_normal.specs.Extents.{IsReach, SaysPoint};
 
+use av_affine::four;
 use av_base::Memory;
 use av_elim::{Elim, bounds};
 use av_poly::{Bounds, Poly};
@@ -45,18 +46,9 @@ fn common(own: &Bounds, within: &Bounds) -> Bounds
     let most = own.high;
     let low = within.low;
     let high = within.high;
-    let first = lower(least[0], low[0], high[0]);
-    let second = lower(least[1], low[1], high[1]);
-    let third = lower(least[2], low[2], high[2]);
-    let fourth = lower(least[3], low[3], high[3]);
-    let low_ends = [first, second, third, fourth];
-    let first = upper(most[0], low[0], high[0]);
-    let second = upper(most[1], low[1], high[1]);
-    let third = upper(most[2], low[2], high[2]);
-    let fourth = upper(most[3], low[3], high[3]);
     Bounds {
-        low: low_ends,
-        high: [first, second, third, fourth],
+        low: four!(index => lower(least[index], low[index], high[index])),
+        high: four!(index => upper(most[index], low[index], high[index])),
     }
 }
 

@@ -6,7 +6,7 @@ ghost use Rattle.av_poly.specs.Points.{IsSmall};
 ghost use Rattle.av_poly.specs.Normal.{counted, IsConstant, IsDivided, AreNormalised, impossible};
 ghost use Rattle.av_poly.specs.inner.Placing.{Lowers, Places};
 
-use av_affine::{Form, coefficients_over, gcd_of};
+use av_affine::{Form, coefficients_over, four, gcd_of};
 use av_base::List;
 
 // A coefficient that counts, or 0.
@@ -21,11 +21,7 @@ fn counted_at(dim: u8, coef: [i64; 4], index: usize) -> i64
 fn counted_of(dim: u8, coef: [i64; 4]) -> [i64; 4]
     ensures { result ≡ counted dim coef }
 {
-    let a = counted_at(dim, coef, 0);
-    let b = counted_at(dim, coef, 1);
-    let c = counted_at(dim, coef, 2);
-    let d = counted_at(dim, coef, 3);
-    [a, b, c, d]
+    four!(index => counted_at(dim, coef, index))
 }
 
 // The row divided by the greatest common divisor of its coefficients; None where it has none.

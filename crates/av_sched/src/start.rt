@@ -8,7 +8,7 @@ ghost use Rattle.av_elim.specs.Extents.{IsOrdinary, IsInside};
 ghost use Rattle.av_sched.specs.inner.Starts.{row_at_most, IsSpanned, IsLeastValue};
 
 use crate::lead::products;
-use av_affine::Form;
+use av_affine::{Form, four};
 use av_base::{List, Memory, Point};
 use av_elim::box_of;
 use av_poly::{Bounds, Poly};
@@ -31,9 +31,8 @@ fn row_of(linear: &Point, most: i64) -> Form
     ensures constant { result.constant ≡ most }
 {
     let entries = linear.as_slice();
-    let entry = |index| turned(entries, index);
     Form {
-        coef: [entry(0), entry(1), entry(2), entry(3)],
+        coef: four!(index => turned(entries, index)),
         constant: most,
     }
 }
