@@ -28,5 +28,5 @@ returns c =
     let back : (z : ℤ) → FitsSigned w64 z → to_z w64 (of_z w64 z) ≡ z = λ z f. simp to_z-of_z in
     let e = simp to_z-of_z at c.small_number-constant.ensures in
     ap₂ (λ (x : ℤ) (xs : List ℤ). x ∷ xs) (back c.small_number-constant.result (search rules) ∙ e)
-    (four_combined low (neg_ℤ high) p n _ _ _ _ h i (back c.coefficient-a.result (search rules) ∙ c.coefficient-a.ensures) (back c.coefficient-b.result (search rules) ∙ c.coefficient-b.ensures)
-    (back c.coefficient-c.result (search rules) ∙ c.coefficient-c.ensures) (back c.coefficient-d.result (search rules) ∙ c.coefficient-d.ensures))
+    (four_combined low (neg_ℤ high) p n _ _ _ _ h i (back c.coefficient.result (search rules) ∙ c.coefficient.ensures) (back c.coefficient-2.result (search rules) ∙ c.coefficient-2.ensures)
+    (back c.coefficient-3.result (search rules) ∙ c.coefficient-3.ensures) (back c.coefficient-4.result (search rules) ∙ c.coefficient-4.ensures))
