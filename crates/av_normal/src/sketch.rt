@@ -94,28 +94,6 @@ fn joined(alloc: Global, dim: u8, first: Sketch, second: Sketch) -> Result<Sketc
     }
 }
 
-// Four trees side by side, by their sketches.
-fn joined_four(
-    alloc: Global,
-    dim: u8,
-    first: Sketch,
-    second: Sketch,
-    third: Sketch,
-    fourth: Sketch,
-) -> Result<Sketch, Memory>
-    requires first { IsSketch first }
-    requires second { IsSketch second }
-    requires third { IsSketch third }
-    requires fourth { IsSketch fourth }
-    ensures sketch { IfOk result IsSketch }
-    ensures same { IfOk result (λ s. sketches_of s ≡ side_by_side (sketches_of first) (side_by_side
-        (sketches_of second) (side_by_side (sketches_of third) (sketches_of fourth)))) }
-{
-    let last = joined(alloc, dim, third, fourth)?;
-    let others = joined(alloc, dim, second, last)?;
-    joined(alloc, dim, first, others)
-}
-
 // The sketch of a reduction along a map.
 fn folded(alloc: Global, op: Op, map: &Map) -> Result<Sketch, Memory>
     ensures sketch { IfOk result IsSketch }
@@ -163,11 +141,13 @@ fn sketch_of(
             no,
             ..
         } => {
-            let left = sketch_of(alloc, vars, dim, under, left)?;
-            let right = sketch_of(alloc, vars, dim, under, right)?;
             let yes = sketch_of(alloc, vars, dim, under, yes)?;
             let no = sketch_of(alloc, vars, dim, under, no)?;
-            joined_four(alloc, dim, left, right, yes, no)
+            let last = joined(alloc, dim, yes, no)?;
+            let right = sketch_of(alloc, vars, dim, under, right)?;
+            let others = joined(alloc, dim, right, last)?;
+            let left = sketch_of(alloc, vars, dim, under, left)?;
+            joined(alloc, dim, left, others)
         }
         Tree::Restrict { domain, body } => {
             let mut rows = List::new(alloc);

@@ -10,6 +10,85 @@ width-fourth-requires-clause-low c =
     let f : FitsSigned w128 x = search rules in
     simp to_z-of_z (c.requires.low 3 (pos 0) (omega (arith, l)))
 
+pub width-first-requires-clause-low : goal.width-first-requires-clause-low
+width-first-requires-clause-low c =
+    let x = get_or c.args.extent.now.low 0 (pos 0) in
+    let l : length c.args.extent.now.low ≡ 4 = search rules in
+    let f : FitsSigned w128 x = search rules in
+    simp to_z-of_z (c.requires.low 0 (pos 0) (omega (arith, l)))
+
+pub width-first-requires-clause-high : goal.width-first-requires-clause-high
+width-first-requires-clause-high c =
+    let x = get_or c.args.extent.now.high 0 (pos 0) in
+    let l : length c.args.extent.now.high ≡ 4 = search rules in
+    let f : FitsSigned w128 x = search rules in
+    simp to_z-of_z (c.requires.high 0 (pos 0) (omega (arith, l)))
+
+pub width-second-requires-clause-low : goal.width-second-requires-clause-low
+width-second-requires-clause-low c =
+    let x = get_or c.args.extent.now.low 1 (pos 0) in
+    let l : length c.args.extent.now.low ≡ 4 = search rules in
+    let f : FitsSigned w128 x = search rules in
+    simp to_z-of_z (c.requires.low 1 (pos 0) (omega (arith, l)))
+
+pub width-second-requires-clause-high : goal.width-second-requires-clause-high
+width-second-requires-clause-high c =
+    let x = get_or c.args.extent.now.high 1 (pos 0) in
+    let l : length c.args.extent.now.high ≡ 4 = search rules in
+    let f : FitsSigned w128 x = search rules in
+    simp to_z-of_z (c.requires.high 1 (pos 0) (omega (arith, l)))
+
+pub width-third-requires-clause-low : goal.width-third-requires-clause-low
+width-third-requires-clause-low c =
+    let x = get_or c.args.extent.now.low 2 (pos 0) in
+    let l : length c.args.extent.now.low ≡ 4 = search rules in
+    let f : FitsSigned w128 x = search rules in
+    simp to_z-of_z (c.requires.low 2 (pos 0) (omega (arith, l)))
+
+pub width-third-requires-clause-high : goal.width-third-requires-clause-high
+width-third-requires-clause-high c =
+    let x = get_or c.args.extent.now.high 2 (pos 0) in
+    let l : length c.args.extent.now.high ≡ 4 = search rules in
+    let f : FitsSigned w128 x = search rules in
+    simp to_z-of_z (c.requires.high 2 (pos 0) (omega (arith, l)))
+
+pub width-fourth-requires-clause-high : goal.width-fourth-requires-clause-high
+width-fourth-requires-clause-high c =
+    let x = get_or c.args.extent.now.high 3 (pos 0) in
+    let l : length c.args.extent.now.high ≡ 4 = search rules in
+    let f : FitsSigned w128 x = search rules in
+    simp to_z-of_z (c.requires.high 3 (pos 0) (omega (arith, l)))
+
+pub area-requires-clause-first : goal.area-requires-clause-first
+area-requires-clause-first c =
+    let f : FitsSigned w128 c.width-first.result = search rules in
+    simp to_z-of_z c.width-first.ensures.small
+
+pub area-requires-clause-second : goal.area-requires-clause-second
+area-requires-clause-second c =
+    let f : FitsSigned w128 c.width-second.result = search rules in
+    simp to_z-of_z c.width-second.ensures.small
+
+pub area-requires-2-clause-first : goal.area-requires-2-clause-first
+area-requires-2-clause-first c =
+    let f : FitsSigned w128 c.width-third.result = search rules in
+    simp to_z-of_z c.width-third.ensures.small
+
+pub area-requires-2-clause-second : goal.area-requires-2-clause-second
+area-requires-2-clause-second c =
+    let f : FitsSigned w128 c.width-fourth.result = search rules in
+    simp to_z-of_z c.width-fourth.ensures.small
+
+pub volume-requires-clause-first : goal.volume-requires-clause-first
+volume-requires-clause-first c =
+    let f : FitsSigned w128 c.area.result = search rules in
+    simp to_z-of_z c.area.ensures.small
+
+pub volume-requires-clause-second : goal.volume-requires-clause-second
+volume-requires-clause-second c =
+    let f : FitsSigned w128 c.area-2.result = search rules in
+    simp to_z-of_z c.area-2.ensures.small
+
 pub returns : goal.returns
 returns c =
     let low = c.args.extent.now.low in

@@ -1,8 +1,120 @@
-use Rattle.std.proofs.Common.{◌≡◌, ◌≤◌, length, rules, get_or, pos, FitsSigned, to_z, of_z, to_z-of_z}
+use Rattle.std.proofs.Common.{◌≡◌, ◌≤◌, length, rules, get_or, pos, FitsSigned, to_z, of_z, to_z-of_z, arith}
 use Rattle.std.specs.Int.{w128}
 use Rattle.std.specs.Int.RustNames.{unsigned_abs}
 use Rattle.av_normal.proofs.Reaches.{small_four, between_both, tight_same}
 use Rattle.av_normal.proofs.keep.common.Goals as goal
+
+pub lower-requires-clause-low : goal.lower-requires-clause-low
+lower-requires-clause-low c =
+    let x = get_or c.args.within.now.low 0 (pos 0) in
+    let l : length c.args.within.now.low ≡ 4 = search rules in
+    let f : FitsSigned w128 x = search rules in
+    simp to_z-of_z (c.requires.low 0 (pos 0) (omega (arith, l)))
+
+pub lower-requires-clause-high : goal.lower-requires-clause-high
+lower-requires-clause-high c =
+    let x = get_or c.args.within.now.high 0 (pos 0) in
+    let l : length c.args.within.now.high ≡ 4 = search rules in
+    let f : FitsSigned w128 x = search rules in
+    simp to_z-of_z (c.requires.high 0 (pos 0) (omega (arith, l)))
+
+pub lower-requires-2-clause-low : goal.lower-requires-2-clause-low
+lower-requires-2-clause-low c =
+    let x = get_or c.args.within.now.low 1 (pos 0) in
+    let l : length c.args.within.now.low ≡ 4 = search rules in
+    let f : FitsSigned w128 x = search rules in
+    simp to_z-of_z (c.requires.low 1 (pos 0) (omega (arith, l)))
+
+pub lower-requires-2-clause-high : goal.lower-requires-2-clause-high
+lower-requires-2-clause-high c =
+    let x = get_or c.args.within.now.high 1 (pos 0) in
+    let l : length c.args.within.now.high ≡ 4 = search rules in
+    let f : FitsSigned w128 x = search rules in
+    simp to_z-of_z (c.requires.high 1 (pos 0) (omega (arith, l)))
+
+pub lower-requires-3-clause-low : goal.lower-requires-3-clause-low
+lower-requires-3-clause-low c =
+    let x = get_or c.args.within.now.low 2 (pos 0) in
+    let l : length c.args.within.now.low ≡ 4 = search rules in
+    let f : FitsSigned w128 x = search rules in
+    simp to_z-of_z (c.requires.low 2 (pos 0) (omega (arith, l)))
+
+pub lower-requires-3-clause-high : goal.lower-requires-3-clause-high
+lower-requires-3-clause-high c =
+    let x = get_or c.args.within.now.high 2 (pos 0) in
+    let l : length c.args.within.now.high ≡ 4 = search rules in
+    let f : FitsSigned w128 x = search rules in
+    simp to_z-of_z (c.requires.high 2 (pos 0) (omega (arith, l)))
+
+pub lower-requires-4-clause-low : goal.lower-requires-4-clause-low
+lower-requires-4-clause-low c =
+    let x = get_or c.args.within.now.low 3 (pos 0) in
+    let l : length c.args.within.now.low ≡ 4 = search rules in
+    let f : FitsSigned w128 x = search rules in
+    simp to_z-of_z (c.requires.low 3 (pos 0) (omega (arith, l)))
+
+pub lower-requires-4-clause-high : goal.lower-requires-4-clause-high
+lower-requires-4-clause-high c =
+    let x = get_or c.args.within.now.high 3 (pos 0) in
+    let l : length c.args.within.now.high ≡ 4 = search rules in
+    let f : FitsSigned w128 x = search rules in
+    simp to_z-of_z (c.requires.high 3 (pos 0) (omega (arith, l)))
+
+pub upper-requires-clause-low : goal.upper-requires-clause-low
+upper-requires-clause-low c =
+    let x = get_or c.args.within.now.low 0 (pos 0) in
+    let l : length c.args.within.now.low ≡ 4 = search rules in
+    let f : FitsSigned w128 x = search rules in
+    simp to_z-of_z (c.requires.low 0 (pos 0) (omega (arith, l)))
+
+pub upper-requires-clause-high : goal.upper-requires-clause-high
+upper-requires-clause-high c =
+    let x = get_or c.args.within.now.high 0 (pos 0) in
+    let l : length c.args.within.now.high ≡ 4 = search rules in
+    let f : FitsSigned w128 x = search rules in
+    simp to_z-of_z (c.requires.high 0 (pos 0) (omega (arith, l)))
+
+pub upper-requires-2-clause-low : goal.upper-requires-2-clause-low
+upper-requires-2-clause-low c =
+    let x = get_or c.args.within.now.low 1 (pos 0) in
+    let l : length c.args.within.now.low ≡ 4 = search rules in
+    let f : FitsSigned w128 x = search rules in
+    simp to_z-of_z (c.requires.low 1 (pos 0) (omega (arith, l)))
+
+pub upper-requires-2-clause-high : goal.upper-requires-2-clause-high
+upper-requires-2-clause-high c =
+    let x = get_or c.args.within.now.high 1 (pos 0) in
+    let l : length c.args.within.now.high ≡ 4 = search rules in
+    let f : FitsSigned w128 x = search rules in
+    simp to_z-of_z (c.requires.high 1 (pos 0) (omega (arith, l)))
+
+pub upper-requires-3-clause-low : goal.upper-requires-3-clause-low
+upper-requires-3-clause-low c =
+    let x = get_or c.args.within.now.low 2 (pos 0) in
+    let l : length c.args.within.now.low ≡ 4 = search rules in
+    let f : FitsSigned w128 x = search rules in
+    simp to_z-of_z (c.requires.low 2 (pos 0) (omega (arith, l)))
+
+pub upper-requires-3-clause-high : goal.upper-requires-3-clause-high
+upper-requires-3-clause-high c =
+    let x = get_or c.args.within.now.high 2 (pos 0) in
+    let l : length c.args.within.now.high ≡ 4 = search rules in
+    let f : FitsSigned w128 x = search rules in
+    simp to_z-of_z (c.requires.high 2 (pos 0) (omega (arith, l)))
+
+pub upper-requires-4-clause-low : goal.upper-requires-4-clause-low
+upper-requires-4-clause-low c =
+    let x = get_or c.args.within.now.low 3 (pos 0) in
+    let l : length c.args.within.now.low ≡ 4 = search rules in
+    let f : FitsSigned w128 x = search rules in
+    simp to_z-of_z (c.requires.low 3 (pos 0) (omega (arith, l)))
+
+pub upper-requires-4-clause-high : goal.upper-requires-4-clause-high
+upper-requires-4-clause-high c =
+    let x = get_or c.args.within.now.high 3 (pos 0) in
+    let l : length c.args.within.now.high ≡ 4 = search rules in
+    let f : FitsSigned w128 x = search rules in
+    simp to_z-of_z (c.requires.high 3 (pos 0) (omega (arith, l)))
 
 pub returns-clause-low : goal.returns-clause-low
 returns-clause-low c =

@@ -1,5 +1,6 @@
-use Rattle.std.proofs.Common.{◌≡◌, ◌++◌, [], map, List, inl, inr, ⊎_elim, subst, ◌∙◌}
+use Rattle.std.proofs.Common.{◌≡◌, ◌++◌, [], map, List, inl, inr, ⊎_elim, subst, ◌∙◌, arith}
 use Rattle.std.proofs.lemmas.List.{length-map}
+use Rattle.std.proofs.lemmas.Grind.{common_steps}
 use Rattle.av_flat.specs.Trees.{Variable, view_variable}
 use Rattle.av_normal.specs.Pairwise.{Pairwise}
 use Rattle.av_normal.specs.inner.NonemptyPieces.{HasNonemptyPieces, IsHeld}
@@ -16,3 +17,6 @@ returns c =
     none_left IsHeld (map view_variable vars) extents c.loop-var.invariant.held (⊎_elim (λ h. inl (length-map vars view_variable ∙ h.1.0)) (λ h. inr h.1.0) c.in-None.ensures.steps) in
     made_along HasNonemptyPieces all made
     (subst (λ (vs : List Variable). (rest : List Variable) → Pairwise HasNonemptyPieces vs rest → Pairwise HasNonemptyPieces all (made ++ rest)) gone c.loop-var.invariant.made)
+
+pub loop-var-preserved : goal.loop-var-preserved
+loop-var-preserved c = grind (arith, common_steps)

@@ -1,4 +1,5 @@
 use Rattle.std.proofs.Common.{◌≡◌, ◌<◌, ◌≤◌, ◌+◌, [], length, map, drop, arith, rules, ap, sym, subst, ◌∙◌, List, refl, OnOk, All}
+use Rattle.std.proofs.lemmas.Grind.{common_steps}
 use Rattle.av_affine.specs.declared.form.Form.{Form}
 use Rattle.av_poly.specs.Points.{IsSmall}
 use Rattle.av_flat.specs.declared.tree.Tree.{Tree as TreeMade}
@@ -177,3 +178,6 @@ rows_of_part-returns-in-Pick-clause-part t c =
 pub rows_of_part-returns-in-Reduce-clause-part : goal.rows_of_part-returns-in-Reduce-clause-part
 rows_of_part-returns-in-Reduce-clause-part t c =
     rw c.in-Reduce.is (reduction_rows (signatures_of c.args.vars.now) c.args.under.now c.in-Reduce.op c.in-Reduce.map (view c.in-Reduce.body.value) c.in-Reduce.set c.args.number c.args.rows.now)
+
+pub rows_of_part-returns-in_ok-right-in-Binary-clause-small : goal.rows_of_part-returns-in_ok-right-in-Binary-clause-small
+rows_of_part-returns-in_ok-right-in-Binary-clause-small t c = grind (arith, common_steps)

@@ -1,4 +1,5 @@
 use Rattle.std.proofs.Common.{◌≡◌, ◌<◌, ◌≤◌, ◌+◌, [], length, map, drop, arith, rules, ap, sym, subst, ◌∙◌, List, refl, OnOk, All}
+use Rattle.std.proofs.lemmas.Grind.{common_steps}
 use Rattle.av_affine.specs.declared.form.Form.{Form}
 use Rattle.av_poly.specs.Points.{IsSmall}
 use Rattle.av_flat.specs.declared.tree.Tree.{Tree as TreeMade}
@@ -167,3 +168,6 @@ part_of-returns-in-Const-clause-part t c =
 pub part_of-returns-in-Pick-clause-part : goal.part_of-returns-in-Pick-clause-part
 part_of-returns-in-Pick-clause-part t c =
     if_ok c.copy_tree.result c.copy_tree.ensures (λ u e. leaf_part (signatures_of c.args.vars.now) c.args.under.now (view c.args.tree.now) (view u) c.args.number c.args.rows.now (rw c.in-Pick.is refl) (rw c.in-Pick.is refl) e)
+
+pub part_of-returns-in_ok-body-in-Reduce-clause-part : goal.part_of-returns-in_ok-body-in-Reduce-clause-part
+part_of-returns-in_ok-body-in-Reduce-clause-part t c = grind (arith, common_steps)

@@ -1,4 +1,6 @@
+use Rattle.std.proofs.Common.{arith}
 use Rattle.std.proofs.lemmas.Result.{err_from_is_err_and}
+use Rattle.std.proofs.lemmas.Grind.{common_steps}
 use Rattle.av_flat.specs.Trees.{view}
 use Rattle.av_normal.specs.inner.ReductionSets.{IsFoldable, IsFillable}
 use Rattle.av_normal.proofs.ReductionSets.{two_narrow, two_first, two_second, four_narrow, four_first, four_second, four_third, four_fourth, body_same, body_narrow, body_after, body_refused}
@@ -90,3 +92,9 @@ filled-returns-in_ok-body-in-Reduce-clause-narrow t c =
     rw c.in-Reduce.is
     (body_narrow c.args.holder.now.dim c.args.holder.now.rows c.in-Reduce.op c.in-Reduce.map (view c.in-Reduce.body.value) c.in-Reduce.set c.in_ok-set-in-Reduce.set h.0 c.in_ok-set-in-Reduce.ensures.dim c.in_ok-set-in-Reduce.ensures.normalised c.in_ok-set-in-Reduce.ensures.narrow
     (rw c.deref-in-Reduce.ensures at c.in_ok-body-in-Reduce.ensures.narrow))
+
+pub filled-returns-in_ok-no-in-Choose-clause-same : goal.filled-returns-in_ok-no-in-Choose-clause-same
+filled-returns-in_ok-no-in-Choose-clause-same t c = grind (arith, common_steps)
+
+pub filled-inner_set-requires-clause-foldable : goal.filled-inner_set-requires-clause-foldable
+filled-inner_set-requires-clause-foldable t c = grind (arith, common_steps)

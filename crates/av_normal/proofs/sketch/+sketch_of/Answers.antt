@@ -56,16 +56,18 @@ sketch_of-returns-in_ok-right-in-Binary-clause-same t c =
     (λ s e. e ∙ ap₂ (λ (xs ys : List (List Form × Bool)). side_by_side xs ys) left right
     ∙ sym (sketched_pairs c.in-Binary.sign (parts (signatures_of c.args.vars.now) c.args.under.now (view c.in-Binary.left.value)) (parts (signatures_of c.args.vars.now) c.args.under.now (view c.in-Binary.right.value)))))
 
-pub sketch_of-returns-in_ok-no-in-Choose-clause-same : goal.sketch_of-returns-in_ok-no-in-Choose-clause-same
-sketch_of-returns-in_ok-no-in-Choose-clause-same t c =
-    let left = rw c.deref-in-Choose.ensures at c.in_ok-left-in-Choose.ensures.same in
-    let right = rw c.deref-in-Choose-2.ensures at c.in_ok-right-in-Choose.ensures.same in
-    let yes = rw c.deref-in-Choose-3.ensures at c.in_ok-yes-in-Choose.ensures.same in
-    let no = rw c.deref-in-Choose-4.ensures at c.in_ok-no-in-Choose.ensures.same in
+pub sketch_of-returns-in_ok-left-in-Choose-clause-same : goal.sketch_of-returns-in_ok-left-in-Choose-clause-same
+sketch_of-returns-in_ok-left-in-Choose-clause-same t c =
+    let yes = rw c.deref-in-Choose.ensures at c.in_ok-yes-in-Choose.ensures.same in
+    let no = rw c.deref-in-Choose-2.ensures at c.in_ok-no-in-Choose.ensures.same in
+    let right = rw c.deref-in-Choose-3.ensures at c.in_ok-right-in-Choose.ensures.same in
+    let left = rw c.deref-in-Choose-4.ensures at c.in_ok-left-in-Choose.ensures.same in
     let both : List (List Form × Bool) → List (List Form × Bool) → List (List Form × Bool) = λ xs ys. side_by_side xs ys in
+    let last = c.in_ok-last-in-Choose.ensures.same ∙ ap₂ both yes no in
+    let others = c.in_ok-others-in-Choose.ensures.same ∙ ap₂ both right last in
     rw c.in-Choose.is
-    (if_ok c.joined_four.result c.joined_four.ensures.same
-    (λ s e. e ∙ ap₂ both left (ap₂ both right (ap₂ both yes no))
+    (if_ok c.joined-in-Choose-3.result c.joined-in-Choose-3.ensures.same
+    (λ s e. e ∙ ap₂ both left others
     ∙ sym (sketched_fours c.in-Choose.compare (parts (signatures_of c.args.vars.now) c.args.under.now (view c.in-Choose.right.value)) (parts (signatures_of c.args.vars.now) c.args.under.now (view c.in-Choose.yes.value)) (parts (signatures_of c.args.vars.now) c.args.under.now (view c.in-Choose.no.value)) (parts (signatures_of c.args.vars.now) c.args.under.now (view c.in-Choose.left.value)))))
 
 -- ---- branches
