@@ -26,3 +26,9 @@ returns-clause-small c =
     let m = abs_product c.args.a c.signum.result 4 1 c.requires.first (omega (arith, ints)) in
     let n = abs_product c.args.b c.signum-2.result 4 1 c.requires.second (omega (arith, ints)) in
     omega (arith, ints, d, e, m, n)
+
+pub overflow_sub-result : goal.overflow_sub-result
+overflow_sub-result c =
+    let f : FitsSigned w64 c.product.result = omega (arith, ints, c.product.ensures.small) in
+    let g : FitsSigned w64 c.product-2.result = omega (arith, ints, c.product-2.ensures.small) in
+    simp to_z-of_z (omega (arith, ints, c.product.ensures.small, c.product-2.ensures.small))

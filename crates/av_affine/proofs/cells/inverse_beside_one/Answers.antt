@@ -1,5 +1,6 @@
 use Rattle.std.proofs.Common.{arith, rules, ◌≡◌, ◌<◌, ◌-◌, ℕ, zero, suc, ◌∙◌, ap, ℤ, ◌*ℤ◌, neg_ℤ, FitsSigned, to_z-of_z, w64, List}
 use Rattle.std.proofs.lemmas.Int.{ints}
+use Rattle.std.proofs.lemmas.Grind.{common_steps}
 use Rattle.av_affine.specs.Completion.{entry}
 use Rattle.av_affine.specs.Cells.{skip, one_solved}
 use Rattle.av_affine.proofs.Blocks.{one_at}
@@ -20,3 +21,9 @@ returns-then-row-p-2 c =
     let e = d ∙ ap (λ k. entry v p *ℤ entry v k) c.nth_other-other.ensures.value in
     let l = one_at v p c.args.row index c.if-row-p-2.true ∙ later v p index (omega arith) in
     omega (arith, ints, e, l, c.product.ensures.small)
+
+pub overflow_sub-result : goal.overflow_sub-result
+overflow_sub-result c = grind (arith, common_steps)
+
+pub product-requires-clause-second : goal.product-requires-clause-second
+product-requires-clause-second c = grind (arith, common_steps)

@@ -1,5 +1,6 @@
 use Rattle.std.proofs.Common.{arith, rules, ◌≡◌, ◌<◌, ◌-◌, ℕ, zero, suc, ◌∙◌, ap, ℤ, ◌*ℤ◌, neg_ℤ, FitsSigned, to_z-of_z, w64, List}
 use Rattle.std.proofs.lemmas.Int.{ints}
+use Rattle.std.proofs.lemmas.Grind.{common_steps}
 use Rattle.av_affine.specs.Completion.{entry}
 use Rattle.av_affine.specs.Cells.{skip, two_solved}
 use Rattle.av_affine.proofs.cells.solved.Goals as goal
@@ -19,3 +20,6 @@ returns-else-index-eq1 c =
     let e : c.nth_other-else-index-eq1.result ≡ skip c.args.p (skip c.args.r (c.args.index - 2)) = c.nth_other-else-index-eq1.ensures.value ∙ ap (skip c.args.p) c.nth_other.ensures.value in
     let l = later v c.args.p c.args.r c.args.head c.args.second c.args.index (omega arith) in
     omega (arith, ints, d ∙ ap (λ k. c.args.head *ℤ entry v k) e, l, c.product.ensures.small)
+
+pub overflow_sub-result : goal.overflow_sub-result
+overflow_sub-result c = grind (arith, common_steps)

@@ -1,4 +1,5 @@
-use Rattle.std.proofs.Common.{rules, ◌∙◌, ap, sym, subst, map, ℤ, ◌*ℤ◌, List, FitsSigned, to_z-of_z, w64}
+use Rattle.std.proofs.Common.{rules, ◌∙◌, ap, sym, subst, map, ℤ, ◌*ℤ◌, List, FitsSigned, to_z-of_z, w64, arith}
+use Rattle.std.proofs.lemmas.Grind.{common_steps}
 use Rattle.av_affine.specs.Completion.{first_row, rows_of, IsCompletion}
 use Rattle.av_affine.proofs.completion.complete.Goals as goal
 
@@ -12,3 +13,6 @@ returns-clause-vector c =
 
 pub returns-clause-rule : goal.returns-clause-rule
 returns-clause-rule c = subst (λ (v : List ℤ). IsCompletion v (rows_of c.completion_of.result.m)) (sym c.completion_of.ensures.first) c.completion_of.ensures.rule
+
+pub returns-clause-sizes : goal.returns-clause-sizes
+returns-clause-sizes c = grind (arith, common_steps)

@@ -2,6 +2,7 @@ use Rattle.std.proofs.Common.{rules, to_z, of_z, ◌≤◌, ◌^◌, sym, ◌∙
 use Rattle.std.specs.Int.RustNames.{unsigned_abs}
 use Rattle.std.proofs.lemmas.Int.{ints, fits_signed_from_abs}
 use Rattle.std.proofs.lemmas.List.Elements.{All-from_recursion}
+use Rattle.std.proofs.lemmas.Grind.{common_steps}
 use Rattle.av_affine.specs.Numbers.{AtMost, dot}
 use Rattle.av_affine.specs.Maps.{constants_of}
 use Rattle.av_affine.proofs.Composing.{constants_most}
@@ -34,3 +35,9 @@ returns-clause-constant c =
     let fs : FitsSigned w64 s = search rules in
     let ft : FitsSigned w64 (s +ℤ k) = fits_signed_from_abs w64 (s +ℤ k) (omega (arith, ints, c.products-constant.ensures.small, c.requires.form.constant)) in
     simp to_z-of_z (omega (arith, ints, c.products-constant.ensures.small, c.requires.form.constant))
+
+pub overflow_add-result : goal.overflow_add-result
+overflow_add-result c = grind (arith, common_steps)
+
+pub products-constant-requires-clause-coef : goal.products-constant-requires-clause-coef
+products-constant-requires-clause-coef c = grind (arith, common_steps)

@@ -1,5 +1,6 @@
-use Rattle.std.proofs.Common.{rules, ◌≡◌, ◌∙◌, ℤ, pos, get_or, FitsSigned, to_z-of_z, to_z, of_z, w64, length}
+use Rattle.std.proofs.Common.{rules, ◌≡◌, ◌∙◌, ℤ, pos, get_or, FitsSigned, to_z-of_z, to_z, of_z, w64, length, arith}
 use Rattle.std.specs.Int.{int_div_euclid}
+use Rattle.std.proofs.lemmas.Grind.{common_steps}
 use Rattle.av_affine.proofs.Fours.{four}
 use Rattle.av_affine.proofs.divisor.coefficients_over.Goals as goal
 
@@ -18,3 +19,9 @@ returns c =
     let e2 = simp to_z-of_z at c.div_euclid-c.ensures in
     let e3 = simp to_z-of_z at c.div_euclid-d.ensures in
     four (λ x. int_div_euclid x c.args.divisor) r _ _ _ _ l (back c.div_euclid-a.result (search rules) ∙ e0) (back c.div_euclid-b.result (search rules) ∙ e1) (back c.div_euclid-c.result (search rules) ∙ e2) (back c.div_euclid-d.result (search rules) ∙ e3)
+
+pub div_euclid-d-requires-clause-no_overflow : goal.div_euclid-d-requires-clause-no_overflow
+div_euclid-d-requires-clause-no_overflow c = grind (arith, common_steps)
+
+pub div_euclid-c-requires-clause-no_overflow : goal.div_euclid-c-requires-clause-no_overflow
+div_euclid-c-requires-clause-no_overflow c = grind (arith, common_steps)
