@@ -1,6 +1,7 @@
 use Rattle.std.proofs.Common.{rules, ◌≡◌, ◌+◌, ◌+ℤ◌, ◌≤ℤ◌, arith, ℤ, pos, List, length, get_or, subst, FitsSigned, to_z-of_z, w64}
 use mir.Syntax.{w128}
 use Rattle.std.proofs.lemmas.Int.{ints, fits_signed_from_abs}
+use Rattle.std.proofs.lemmas.Grind.{common_steps}
 use Rattle.av_affine.specs.Numbers.{dot}
 use Rattle.av_poly.proofs.Intervals.{value_apart, rest_of}
 use Rattle.av_poly.proofs.interval.narrowed.Goals as goal
@@ -27,3 +28,24 @@ returns-clause-keeps c =
     let m = subst (λ (ys : List ℤ). dot ys z ≤ℤ after) (rest_of 4 coef (at + 1) l4) (c.most-after.ensures.most z n b) in
     let v = value_apart c.args.row.now fixed z x (pos 0) (omega (arith, l4, c.requires.fits)) in
     k x (omega (arith, ints, h, v, m, c.products-before.ensures.value)) l q
+
+pub most-after-requires-clause-coef : goal.most-after-requires-clause-coef
+most-after-requires-clause-coef c = grind (arith, common_steps)
+
+pub restricted-requires-clause-rest : goal.restricted-requires-clause-rest
+restricted-requires-clause-rest c = grind (arith, common_steps)
+
+pub restricted-requires-clause-coef : goal.restricted-requires-clause-coef
+restricted-requires-clause-coef c = grind (arith, common_steps)
+
+pub overflow_add-before : goal.overflow_add-before
+overflow_add-before c = grind (arith, common_steps)
+
+pub overflow_cast-row : goal.overflow_cast-row
+overflow_cast-row c = grind (arith, common_steps)
+
+pub most-after-requires-clause-high : goal.most-after-requires-clause-high
+most-after-requires-clause-high c = grind (arith, common_steps)
+
+pub most-after-requires-clause-low : goal.most-after-requires-clause-low
+most-after-requires-clause-low c = grind (arith, common_steps)

@@ -1,6 +1,7 @@
 use Rattle.std.proofs.Common.{rules, ◌^◌, arith, pos, ◌-ℤ◌, FitsSigned, to_z-of_z, w64}
 use mir.Syntax.{w128}
 use Rattle.std.proofs.lemmas.Int.{ints, clamps, fits_signed_from_abs}
+use Rattle.std.proofs.lemmas.Grind.{common_steps}
 use Rattle.av_poly.proofs.Intervals.{above_floor, below_floor, floor_most, is_positive, is_negative}
 use Rattle.av_poly.proofs.interval.restricted.Goals as goal
 
@@ -58,3 +59,30 @@ returns-then-factor-lt0-clause-keeps c =
     let t = is_negative coef (simp to_z-of_z at c.if-factor-lt0.true) in
     let m = simp to_z-of_z at c.min.ensures.value in
     λ x p l q. let a = below_floor coef x rest floor t e p in simp to_z-of_z (l, omega (arith, ints, clamps, m, q, a))
+
+pub returns-then-rest-lt0-clause-keeps : goal.returns-then-rest-lt0-clause-keeps
+returns-then-rest-lt0-clause-keeps c = grind (arith, common_steps)
+
+pub returns-then-rest-lt0-clause-low : goal.returns-then-rest-lt0-clause-low
+returns-then-rest-lt0-clause-low c = grind (arith, common_steps)
+
+pub returns-then-rest-lt0-clause-below : goal.returns-then-rest-lt0-clause-below
+returns-then-rest-lt0-clause-below c = grind (arith, common_steps)
+
+pub returns-then-rest-lt0-clause-above : goal.returns-then-rest-lt0-clause-above
+returns-then-rest-lt0-clause-above c = grind (arith, common_steps)
+
+pub overflow_sub-floor : goal.overflow_sub-floor
+overflow_sub-floor c = grind (arith, common_steps)
+
+pub returns-then-factor-gt0-clause-below : goal.returns-then-factor-gt0-clause-below
+returns-then-factor-gt0-clause-below c = grind (arith, common_steps)
+
+pub returns-then-factor-lt0-clause-low : goal.returns-then-factor-lt0-clause-low
+returns-then-factor-lt0-clause-low c = grind (arith, common_steps)
+
+pub returns-then-factor-gt0-clause-above : goal.returns-then-factor-gt0-clause-above
+returns-then-factor-gt0-clause-above c = grind (arith, common_steps)
+
+pub returns-then-factor-lt0-clause-above : goal.returns-then-factor-lt0-clause-above
+returns-then-factor-lt0-clause-above c = grind (arith, common_steps)

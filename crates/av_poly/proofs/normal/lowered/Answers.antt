@@ -3,6 +3,7 @@ use Rattle.std.proofs.lemmas.Slice.Eq.{slice_eq-Decides}
 use Rattle.std.proofs.lemmas.Bool.Decides.{Decides-int_eq}
 use Rattle.std.proofs.lemmas.List.{get_or_default}
 use Rattle.std.proofs.lemmas.List.Elements.{All-more}
+use Rattle.std.proofs.lemmas.Grind.{common_steps}
 use Rattle.av_affine.specs.declared.form.Form.{Form}
 use Rattle.av_poly.specs.inner.Placing.{Lowers}
 use Rattle.av_poly.proofs.Lowering.{lowers_at}
@@ -38,3 +39,6 @@ loop-k-preserved c =
       same = c.loop-k.invariant.same;
       none = All-more P c.args.rows.now k row (subst (λ (fs : List Form). k < length fs) c.loop-k.invariant.same l) c.loop-k.invariant.none at;
     }
+
+pub set-requires : goal.set-requires
+set-requires c = grind (arith, common_steps)

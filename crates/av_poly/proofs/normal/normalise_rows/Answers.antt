@@ -1,6 +1,7 @@
 use Rattle.std.proofs.Common.{◌≡◌, ◌<◌, length, arith, rules, sym, ◌∙◌, ap, get_or, take, List, [], ℤ, pos, ◌≤ℤ◌, ◌<ℤ◌, FitsSigned, to_z, of_z, w64, true, false}
 use Rattle.std.specs.Int.Signed.{lt_z}
 use Rattle.std.proofs.lemmas.Int.{ints}
+use Rattle.std.proofs.lemmas.Grind.{common_steps}
 use Rattle.av_affine.specs.declared.form.Form.{Form}
 use Rattle.av_poly.proofs.Sofar.{sofar_never, sofar_placed, sofar_constant}
 use Rattle.av_poly.proofs.normal.normalise_rows.Goals as goal
@@ -39,3 +40,12 @@ loop-k-preserved c =
       | in-Some w ↦ rw (w.kept-is, w.rows-is) (sofar_placed c.args.dim c.args.rows.now c.loop-k.rows _ c.loop-k.kept c.loop-k.k _ x none w.in-Some.new s m e w.in-Some.ensures.divided w.in-Some.ensures.small w.placed-kept.ensures)
       | in-None+else-row-lt0 w ↦ rw (w.kept-is, w.rows-is) (sofar_constant c.args.dim c.args.rows.now c.loop-k.rows c.loop-k.kept c.loop-k.k x none s m e w.in-None.ensures.none (not_negative x.constant f w.if-row-lt0.false))
     ]
+
+pub returns-clause-small : goal.returns-clause-small
+returns-clause-small c = grind (arith, common_steps)
+
+pub loop-k-init : goal.loop-k-init
+loop-k-init c = grind (arith, common_steps)
+
+pub set-requires : goal.set-requires
+set-requires c = grind (arith, common_steps)

@@ -1,5 +1,6 @@
 use Rattle.std.proofs.Common.{rules, ◌≡◌, ◌^◌, ◌∙◌, sym, subst, ℤ, pos, ◌-ℤ◌, length, get_or, arith, FitsSigned, to_z, of_z, to_z-of_z, w64}
 use Rattle.std.proofs.lemmas.Int.{ints, fits_signed_from_abs}
+use Rattle.std.proofs.lemmas.Grind.{common_steps}
 use Rattle.av_affine.specs.Numbers.{AtMost}
 use Rattle.av_affine.proofs.Dots.{entry_most}
 use Rattle.av_poly.proofs.Parting.{five, negated, negated_most, complement_points}
@@ -36,3 +37,15 @@ returns c =
         constant = rw d (omega (arith, ints, c.requires.constant));
       };
     }
+
+pub overflow_sub-result-4 : goal.overflow_sub-result-4
+overflow_sub-result-4 c = grind (arith, common_steps)
+
+pub overflow_sub-result-6 : goal.overflow_sub-result-6
+overflow_sub-result-6 c = grind (arith, common_steps)
+
+pub overflow_sub-result-5 : goal.overflow_sub-result-5
+overflow_sub-result-5 c = grind (arith, common_steps)
+
+pub overflow_sub-result-3 : goal.overflow_sub-result-3
+overflow_sub-result-3 c = grind (arith, common_steps)

@@ -1,4 +1,5 @@
 use Rattle.std.proofs.Common.{◌<◌, ◌∙◌, length, arith}
+use Rattle.std.proofs.lemmas.Grind.{common_steps}
 use Rattle.av_poly.proofs.Parting.{kept_more, small_more, parts_more}
 use Rattle.av_poly.proofs.parts.parts.Goals as goal
 
@@ -15,3 +16,9 @@ loop-row-preserved c =
       parts = parts_more c.args.dim c.args.within.now rows c.as_slice.result.now i _ c.loop-row.parts _ c.in_ok-part.field-0 l (c.as_slice.ensures ∙ c.loop-row.invariant.kept) c.loop-row.invariant.parts
           c.in_ok-part.ensures.dim c.in_ok-part.ensures.points c.in_ok-push.ensures.ok;
     }
+
+pub returns : goal.returns
+returns c = grind (arith, common_steps)
+
+pub loop-row-init : goal.loop-row-init
+loop-row-init c = grind (arith, common_steps)

@@ -4,6 +4,7 @@ use Rattle.std.specs.Int.RustNames.{unsigned_abs}
 use Rattle.std.proofs.lemmas.Int.{ints, fits_signed_from_abs}
 use Rattle.std.proofs.lemmas.List.{length-drop}
 use Rattle.std.proofs.lemmas.List.Elements.{All-push, All-take, All-drop}
+use Rattle.std.proofs.lemmas.Grind.{common_steps}
 use Rattle.av_affine.specs.Numbers.{AtMost}
 use Rattle.av_affine.proofs.Dots.{entry_most}
 use Rattle.av_poly.specs.Search.{CanFollow}
@@ -95,3 +96,15 @@ returns-clause-none t c =
     let some : 0 < length c.args.low.now = search rules in
     let h = past_end v top (omega (arith, ints, b, c.interval_of-span.ensures.below)) f c.loop-value-test.false in
     none_left c.args.rows.now c.args.fixed.now c.args.low.now c.args.high.now v top some c.loop-value.invariant.passed (λ y rest n b h. (c.interval_of-span.ensures.keeps y rest n b h).1) h
+
+pub loop-value-init : goal.loop-value-init
+loop-value-init t c = grind (arith, common_steps)
+
+pub returns-then-is_some-clause-none : goal.returns-then-is_some-clause-none
+returns-then-is_some-clause-none t c = grind (arith, common_steps)
+
+pub returns-else-each_holds-clause-none : goal.returns-else-each_holds-clause-none
+returns-else-each_holds-clause-none t c = grind (arith, common_steps)
+
+pub overflow_add-value-end : goal.overflow_add-value-end
+overflow_add-value-end t c = grind (arith, common_steps)

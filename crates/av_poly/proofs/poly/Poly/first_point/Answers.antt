@@ -1,4 +1,5 @@
 use Rattle.std.proofs.Common.{rules, ◌≡◌, ℤ, List, [], length, length-take-le, take, arith}
+use Rattle.std.proofs.lemmas.Grind.{common_steps}
 use Rattle.av_poly.specs.Points.{Has}
 use Rattle.av_poly.specs.Search.{IsBetween, IsNotAfter, CanFollow}
 use Rattle.av_poly.specs.inner.Search.{IsFirstFrom}
@@ -23,3 +24,9 @@ returns c =
       none = none_weaker ((rest : List ℤ) → CanFollow c.as_slice.result.now [] c.as_slice-2.result.now c.as_slice-3.result.now rest → ⊥) ((z : List ℤ) → Has set z → IsBetween low high z → ⊥)
           (λ f z p b. f z (follow_same _ _ _ _ _ _ z r l h (follows_none set low high z n p b))) c.first_from.result c.first_from.ensures.none;
     }
+
+pub first_from-requires-clause-low : goal.first_from-requires-clause-low
+first_from-requires-clause-low c = grind (arith, common_steps)
+
+pub first_from-requires-clause-high : goal.first_from-requires-clause-high
+first_from-requires-clause-high c = grind (arith, common_steps)
