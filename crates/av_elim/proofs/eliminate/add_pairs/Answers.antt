@@ -1,5 +1,6 @@
 use Rattle.std.proofs.Common.{rules, ◌≡◌, ◌<◌, ◌+◌, ◌^◌, ◌++◌, ◌∙◌, suc, ℤ, pos, List, [], ◌∷◌, length, drop, get_or, int_lt, true, false, ap, sym, subst, arith, w64, FitsSigned, to_z-of_z}
 use Rattle.std.proofs.lemmas.Int.{ints}
+use Rattle.std.proofs.lemmas.Grind.{common_steps}
 use Rattle.av_affine.specs.declared.form.Form.{Form}
 use Rattle.av_poly.specs.Rational.{homogeneous}
 use Rattle.av_elim.specs.inner.Rows.{line, factor, Small, StandsFor}
@@ -36,3 +37,12 @@ loop-above-preserved c =
           let t : int_lt (factor k (line above)) (pos 0) ≡ false = grind (arith, ints, simp to_z-of_z at w.if-above-other-lt0.false) in
           rw (w.out-is, ← pairs_out rows i none h k p t) c.loop-above.invariant
     ]
+
+pub combined-requires-clause-above : goal.combined-requires-clause-above
+combined-requires-clause-above c = grind (arith, common_steps)
+
+pub returns : goal.returns
+returns c = grind (arith, common_steps)
+
+pub combined-requires-clause-below : goal.combined-requires-clause-below
+combined-requires-clause-below c = grind (arith, common_steps)

@@ -30,3 +30,39 @@ returns c =
     ap₂ (λ (x : ℤ) (xs : List ℤ). x ∷ xs) (back c.small_number-constant.result (search rules) ∙ e)
     (four_combined low (neg_ℤ high) p n _ _ _ _ h i (back c.coefficient.result (search rules) ∙ c.coefficient.ensures) (back c.coefficient-2.result (search rules) ∙ c.coefficient-2.ensures)
     (back c.coefficient-3.result (search rules) ∙ c.coefficient-3.ensures) (back c.coefficient-4.result (search rules) ∙ c.coefficient-4.ensures))
+
+pub coefficient-requires-clause-below : goal.coefficient-requires-clause-below
+coefficient-requires-clause-below c = c.requires.below
+
+pub coefficient-requires-clause-above : goal.coefficient-requires-clause-above
+coefficient-requires-clause-above c = c.requires.above
+
+pub coefficient-requires-2-clause-below : goal.coefficient-requires-2-clause-below
+coefficient-requires-2-clause-below c = c.requires.below
+
+pub coefficient-requires-2-clause-above : goal.coefficient-requires-2-clause-above
+coefficient-requires-2-clause-above c = c.requires.above
+
+pub coefficient-requires-3-clause-below : goal.coefficient-requires-3-clause-below
+coefficient-requires-3-clause-below c = c.requires.below
+
+pub coefficient-requires-3-clause-above : goal.coefficient-requires-3-clause-above
+coefficient-requires-3-clause-above c = c.requires.above
+
+pub coefficient-requires-4-clause-below : goal.coefficient-requires-4-clause-below
+coefficient-requires-4-clause-below c = c.requires.below
+
+pub coefficient-requires-4-clause-above : goal.coefficient-requires-4-clause-above
+coefficient-requires-4-clause-above c = c.requires.above
+
+pub small_number-constant-requires-clause-below : goal.small_number-constant-requires-clause-below
+small_number-constant-requires-clause-below c =
+    let f : FitsSigned w64 c.args.below.now.constant = search rules in
+    let h = c.requires.below.constant in
+    simp to_z-of_z (omega (arith, h))
+
+pub small_number-constant-requires-clause-above : goal.small_number-constant-requires-clause-above
+small_number-constant-requires-clause-above c =
+    let f : FitsSigned w64 c.args.above.now.constant = search rules in
+    let h = c.requires.above.constant in
+    simp to_z-of_z (omega (arith, h))

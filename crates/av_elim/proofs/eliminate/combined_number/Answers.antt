@@ -44,3 +44,11 @@ returns-clause-coefficient c = λ below above.
     let l = (simp to_z-of_z at c.product-left.ensures.coefficient) above in
     let r = (simp to_z-of_z at c.product-right.ensures.coefficient) below in
     simp to_z-of_z (omega (arith, ints, l, r))
+
+pub overflow_sub-result : goal.overflow_sub-result
+overflow_sub-result c =
+    let a = c.product-left.result in
+    let b = c.product-right.result in
+    let f : FitsSigned w128 a = search rules in
+    let g : FitsSigned w128 b = search rules in
+    simp to_z-of_z (fits a b c.product-left.ensures.small c.product-right.ensures.small)

@@ -1,6 +1,7 @@
 use Rattle.std.proofs.Common.{rules, ◌≡◌, ◌<◌, ◌+◌, ◌++◌, ◌∙◌, suc, ℤ, pos, List, [], ◌∷◌, length, drop, get_or, int_lt, true, false, ap, sym, subst, arith, w64, FitsSigned, to_z-of_z}
 use Rattle.std.specs.Ordering.{int_eq}
 use Rattle.std.proofs.lemmas.Int.{ints}
+use Rattle.std.proofs.lemmas.Grind.{common_steps}
 use Rattle.av_affine.specs.declared.form.Form.{Form}
 use Rattle.av_poly.specs.Rational.{homogeneous}
 use Rattle.av_elim.specs.inner.Rows.{line, factor, StandsFor}
@@ -56,3 +57,15 @@ loop-below-preserved c =
           let t : int_lt (pos 0) (factor k (line below)) ≡ false = grind (arith, ints, simp to_z-of_z at w.if-below-other-gt0.false) in
           rw (w.out-is, ← all_out rows i none h k all t) c.loop-below.invariant
     ]
+
+pub add_pairs-requires-clause-rows : goal.add_pairs-requires-clause-rows
+add_pairs-requires-clause-rows c = grind (arith, common_steps)
+
+pub add_pairs-requires-clause-below : goal.add_pairs-requires-clause-below
+add_pairs-requires-clause-below c = grind (arith, common_steps)
+
+pub add-requires : goal.add-requires
+add-requires c = grind (arith, common_steps)
+
+pub returns : goal.returns
+returns c = grind (arith, common_steps)

@@ -2,6 +2,7 @@ use Rattle.std.proofs.Common.{rules, ◌≡◌, ◌<◌, ◌≤ℤ◌, ◌++◌,
 use Rattle.std.proofs.lemmas.Int.{ints}
 use Rattle.std.proofs.lemmas.Slice.Eq.{slice_eq-Decides}
 use Rattle.std.proofs.lemmas.Bool.Decides.{Decides-int_eq}
+use Rattle.std.proofs.lemmas.Grind.{common_steps}
 use Rattle.av_affine.specs.declared.form.Form.{Form}
 use Rattle.av_poly.specs.Rational.{homogeneous}
 use Rattle.av_elim.specs.inner.Rows.{line, StandsFor}
@@ -36,3 +37,6 @@ returns-else-row-other-clause-yes c =
     let o : x.constant ≤ℤ row.constant = grind (arith, ints, c.if-row-other.false) in
     let s = stands_stronger rows k none row l (subst (λ (y : Form). y.coef ≡ row.coef) r e) (subst (λ (y : Form). y.constant ≤ℤ row.constant) r o) in
     λ _. subst (λ (old : List Form). StandsFor (homogeneous old ++ line row ∷ []) (homogeneous rows)) c.loop-place.invariant s
+
+pub set-requires : goal.set-requires
+set-requires c = grind (arith, common_steps)

@@ -67,3 +67,20 @@ returns c =
     let b = simp to_z-of_z at c.combined_number-c.ensures.value in
     let e = simp to_z-of_z at c.step.ensures in
     e ∙ ap₂ (λ x y. stepped x y c.args.span) (a ∙ sym (factor_combine (factor j p) (neg_ℤ (factor j n)) p n k)) (b ∙ sym (factor_combine (factor j p) (neg_ℤ (factor j n)) p n zero))
+
+pub combined_number-c-requires-clause-below : goal.combined_number-c-requires-clause-below
+combined_number-c-requires-clause-below c =
+    let f : FitsSigned w64 c.args.below.now.constant = search rules in
+    let h = c.requires.below.constant in
+    simp to_z-of_z (omega (arith, h))
+
+pub combined_number-c-requires-clause-above : goal.combined_number-c-requires-clause-above
+combined_number-c-requires-clause-above c =
+    let f : FitsSigned w64 c.args.above.now.constant = search rules in
+    let h = c.requires.above.constant in
+    simp to_z-of_z (omega (arith, h))
+
+pub step-requires-clause-c : goal.step-requires-clause-c
+step-requires-clause-c c =
+    let f : FitsSigned w128 c.combined_number-c.result = search rules in
+    simp to_z-of_z c.combined_number-c.ensures.small

@@ -1,5 +1,6 @@
 use Rattle.std.proofs.Common.{rules, ◌≡◌, ◌<◌, ◌+◌, ◌∙◌, suc, ℤ, pos, List, [], length, drop, get_or, int_lt, true, false, ap, sym, arith, w64, FitsSigned, to_z-of_z}
 use Rattle.std.proofs.lemmas.Int.{ints}
+use Rattle.std.proofs.lemmas.Grind.{common_steps}
 use Rattle.av_affine.specs.declared.form.Form.{Form}
 use Rattle.av_poly.specs.Rational.{homogeneous}
 use Rattle.av_elim.specs.inner.Rows.{line, factor}
@@ -30,3 +31,15 @@ loop-below-preserved c =
           let t : int_lt (pos 0) (factor k (line below)) ≡ false = grind (arith, ints, simp to_z-of_z at w.if-below-other-gt0.false) in
           rw (w.span-is, ← all_out rows i none h k all t) c.loop-below.invariant
     ]
+
+pub loop-row-preserved : goal.loop-row-preserved
+loop-row-preserved c = grind (arith, common_steps)
+
+pub scan_pairs-span-requires-clause-rows : goal.scan_pairs-span-requires-clause-rows
+scan_pairs-span-requires-clause-rows c = grind (arith, common_steps)
+
+pub scan_pairs-span-requires-clause-below : goal.scan_pairs-span-requires-clause-below
+scan_pairs-span-requires-clause-below c = grind (arith, common_steps)
+
+pub row_step-span-requires-clause-row : goal.row_step-span-requires-clause-row
+row_step-span-requires-clause-row c = grind (arith, common_steps)
