@@ -1,4 +1,5 @@
 use Rattle.std.proofs.Common.{rules, sym, ap, subst, ◌∙◌, ◌<◌, ◌≤◌, ◌+◌, Bool, List, length, arith}
+use Rattle.std.proofs.lemmas.Grind.{common_steps, elements}
 use Rattle.av_depend.specs.Components.{first_node, IsJoined}
 use Rattle.av_depend.specs.inner.Reaching.{IsComponentIn}
 use Rattle.av_depend.proofs.Together.{component_is, some, AreComponentsTo, components_more, components_skip, components_all}
@@ -37,3 +38,9 @@ pub returns : goal.returns
 returns c =
     let over : c.args.nodes ≤ c.loop-node.node = search rules in
     components_all c.args.nodes c.loop-node.node (IsJoined c.args.edges.now) c.loop-node.list over c.loop-node.invariant
+
+pub component_of-requires-clause-square : goal.component_of-requires-clause-square
+component_of-requires-clause-square c = grind (arith, elements)
+
+pub loop-node-init : goal.loop-node-init
+loop-node-init c = grind (arith, common_steps)

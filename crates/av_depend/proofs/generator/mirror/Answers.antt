@@ -1,6 +1,7 @@
-use Rattle.std.proofs.Common.{rules, ◌≡◌, ◌∙◌, ◌<◌, ◌≤◌, ◌^◌, sym, ap, ap₂, length, unsigned_abs, FitsSigned, w64, to_z-of_z, ℤ, pos}
+use Rattle.std.proofs.Common.{rules, ◌≡◌, ◌∙◌, ◌<◌, ◌≤◌, ◌^◌, sym, ap, ap₂, length, unsigned_abs, FitsSigned, w64, to_z-of_z, ℤ, pos, arith}
 use Rattle.std.specs.Prelude.{slice_index_or}
 use Rattle.std.proofs.lemmas.List.Elements.{All-push}
+use Rattle.std.proofs.lemmas.Grind.{common_steps}
 use Rattle.av_depend.specs.inner.Generating.{mirrored}
 use Rattle.av_depend.proofs.Mirrors.{mirrored_more, mirrored_size}
 use Rattle.av_depend.proofs.generator.mirror.Goals as goal
@@ -28,3 +29,12 @@ returns-clause-value c =
     let size : length x ≡ length z = ap length c.as_slice-b.ensures.value ∙ c.requires.size ∙ ap length (sym c.as_slice-a.ensures.value) in
     let over : length (mirrored z x) ≤ c.loop-k.k = (let s = mirrored_size z x size in search rules) in
     c.from_slice.ensures ∙ search rules ∙ take_whole (mirrored z x) c.loop-k.k over ∙ ap₂ mirrored c.as_slice-a.ensures.value c.as_slice-b.ensures.value
+
+pub push-requires : goal.push-requires
+push-requires c = grind (arith, common_steps)
+
+pub across-requires-clause-first : goal.across-requires-clause-first
+across-requires-clause-first c = grind (arith, common_steps)
+
+pub across-requires-clause-second : goal.across-requires-clause-second
+across-requires-clause-second c = grind (arith, common_steps)

@@ -5,6 +5,7 @@ use Rattle.std.proofs.lemmas.Int.{ints, fits_signed_from_abs}
 use Rattle.std.proofs.lemmas.List.{length-drop}
 use Rattle.std.proofs.lemmas.List.Elements.{All-push, All-take, All-drop}
 use Rattle.std.proofs.lemmas.Result.{on_ok_weaker}
+use Rattle.std.proofs.lemmas.Grind.{common_steps}
 use Rattle.av_affine.specs.Numbers.{AtMost}
 use Rattle.av_affine.proofs.Dots.{entry_most}
 use Rattle.av_poly.proofs.Searching.{later, later_is}
@@ -83,3 +84,6 @@ returns t c =
     let some : 0 < length c.args.low.now = search rules in
     let h = past_end v (get_or high 0 (pos 0)) (simp to_z-of_z at c.loop-value-test.false) in
     added_through c.args.set.now c.args.fixed.now c.args.low.now high v c.args.points.now c.loop-value.points some h c.loop-value.invariant.added
+
+pub overflow_add-value-end : goal.overflow_add-value-end
+overflow_add-value-end t c = grind (arith, common_steps)

@@ -1,4 +1,5 @@
 use Rattle.std.proofs.Common.{rules, ◌≡◌, ◌∙◌, sym, subst, [], length, length-take-le, take, arith}
+use Rattle.std.proofs.lemmas.Grind.{common_steps}
 use Rattle.av_tree.specs.Points.{Point}
 use Rattle.av_depend.specs.AllPoints.{AreAllPoints}
 use Rattle.av_depend.specs.inner.Listing.{AreListed}
@@ -18,3 +19,9 @@ returns c =
     let e : c.add_points.new.points ≡ k.added = k.new_is ∙ search rules in
     let are = subst (λ (xs : Point). AreListed set.rows [] xs (take set.dim high) k.added) l (subst (λ (xs : Point). AreListed set.rows [] c.as_slice.result.now xs k.added) h k.are) in
     subst (AreAllPoints set) (sym e) (listed_are_all set low high k.added n c.requires.inside.between are)
+
+pub add_points-requires-clause-low : goal.add_points-requires-clause-low
+add_points-requires-clause-low c = grind (arith, common_steps)
+
+pub add_points-requires-clause-high : goal.add_points-requires-clause-high
+add_points-requires-clause-high c = grind (arith, common_steps)

@@ -1,4 +1,5 @@
-use Rattle.std.proofs.Common.{sym, subst, Bool, List, length, ◌<◌}
+use Rattle.std.proofs.Common.{sym, subst, Bool, List, length, ◌<◌, arith}
+use Rattle.std.proofs.lemmas.Grind.{common_steps}
 use Rattle.av_depend.specs.Components.{IsJoined}
 use Rattle.av_depend.specs.inner.Reaching.{IsOpen, IsClosed}
 use Rattle.av_depend.proofs.Marks.{IsSpread, spread_start, spread_more, spread_closed}
@@ -17,3 +18,9 @@ loop-node-preserved c =
 
 pub returns : goal.returns
 returns c = spread_closed c.args.nodes c.args.from c.args.edges.now c.loop-node.marks c.loop-node.invariant (subst (IsClosed c.args.edges.now) c.as_slice.ensures c.in_default.ensures.closed)
+
+pub set-requires : goal.set-requires
+set-requires c = grind (arith, common_steps)
+
+pub loop-node-smaller : goal.loop-node-smaller
+loop-node-smaller c = grind (arith, common_steps)
