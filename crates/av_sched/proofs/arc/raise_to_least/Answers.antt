@@ -1,4 +1,5 @@
-use Rattle.std.proofs.Common.{rules, ◌≡◌, ◌∙◌, ◌+◌, refl, sym, ap, subst, true≢false, All, List, ℤ, length}
+use Rattle.std.proofs.Common.{rules, ◌≡◌, ◌∙◌, ◌+◌, refl, sym, ap, subst, true≢false, All, List, ℤ, length, arith}
+use Rattle.std.proofs.lemmas.Grind.{common_steps}
 use Rattle.av_sched.specs.Arcs.{IsLate}
 use Rattle.av_sched.specs.inner.Rounds.{raised_all}
 use Rattle.av_sched.proofs.Rounds.{IsKept, kept_first, kept_more}
@@ -25,3 +26,9 @@ loop-round-preserved c =
       kept = subst (IsKept arcs low (c.loop-round.round + 1)) (sym new) (kept_more arcs low off c.loop-round.round c.requires.arcs busy c.loop-round.invariant.kept);
       same = ap length same ∙ c.loop-round.invariant.kept.size;
     }
+
+pub raise_all-requires-clause-old : goal.raise_all-requires-clause-old
+raise_all-requires-clause-old c = grind (arith, common_steps)
+
+pub all_late-requires-clause-off : goal.all_late-requires-clause-off
+all_late-requires-clause-off c = grind (arith, common_steps)

@@ -1,4 +1,5 @@
-use Rattle.std.proofs.Common.{rules, ◌<◌, refl, sym, subst, length, take, List, ◌++◌, ◌∷◌, []}
+use Rattle.std.proofs.Common.{rules, ◌<◌, refl, sym, subst, length, take, List, ◌++◌, ◌∷◌, [], arith}
+use Rattle.std.proofs.lemmas.Grind.{common_steps}
 use Rattle.av_depend.specs.declared.edge.Edge.{Edge}
 use Rattle.av_sched.specs.inner.Walk.{AreArcsInside}
 use Rattle.av_sched.proofs.Steps.{take_more}
@@ -28,3 +29,6 @@ loop-edge-preserved c =
     rw c.in_ok-push.ensures.items
     (subst (λ (xs : List Edge). AreArcsInside c.args.linear.now xs c.args.component.now (c.loop-edge.arcs.items ++ c.arc_of.result ∷ [])) (sym (take_more c.args.edges.now c.loop-edge.edge-index e e l c.edge-item.is refl))
     (inside_more c.args.linear.now c.args.component.now (take c.loop-edge.edge-index c.args.edges.now) e c.loop-edge.arcs.items c.arc_of.result a b c.arc_of.ensures c.loop-edge.invariant))
+
+pub returns : goal.returns
+returns c = grind (arith, common_steps)

@@ -1,4 +1,5 @@
-use Rattle.std.proofs.Common.{rules, refl, ◌≡◌, ◌∙◌, ◌≤◌, ◌<◌, ◌^◌, ◌-◌, ◌+◌, ◌*◌, min, ap, subst, length, All}
+use Rattle.std.proofs.Common.{rules, refl, ◌≡◌, ◌∙◌, ◌≤◌, ◌<◌, ◌^◌, ◌-◌, ◌+◌, ◌*◌, min, ap, subst, length, All, arith}
+use Rattle.std.proofs.lemmas.Grind.{common_steps}
 use Rattle.av_flat.specs.Trees.{view_system}
 use Rattle.av_sched.specs.Choices.{candidates}
 use Rattle.av_sched.proofs.Counting.{counted, few_more, many_at}
@@ -31,3 +32,6 @@ pub returns-clause-none : goal.returns-clause-none
 returns-clause-none c =
     let s = view_system c.args.flat.now in
     subst (All (λ d. candidates s c.args.reach.size d ≤ 4194304)) (take_whole c.args.components.now c.loop-k.k (search rules)) c.loop-k.invariant
+
+pub candidates_of-number-requires-clause-within : goal.candidates_of-number-requires-clause-within
+candidates_of-number-requires-clause-within c = grind (arith, common_steps)

@@ -1,4 +1,5 @@
-use Rattle.std.proofs.Common.{◌<◌, refl, sym, subst, length, get_or, ◌+◌}
+use Rattle.std.proofs.Common.{◌<◌, refl, sym, subst, length, get_or, ◌+◌, arith}
+use Rattle.std.proofs.lemmas.Grind.{common_steps}
 use Rattle.av_flat.specs.Trees.{view_system}
 use Rattle.av_flat.specs.Nodes.{nodes}
 use Rattle.av_sched.specs.inner.Walk.{AreAllPartsTo}
@@ -21,3 +22,6 @@ loop-k-preserved c =
     let n = get_or component c.loop-k.k 0 in
     subst (AreAllPartsTo s c.args.reach.size component (c.loop-k.k + 1)) (sym c.in_ok-push.ensures.ok)
     (lists_more s c.args.reach.size component c.loop-k.k c.loop-k.lists c.in_ok-list.list c.in_ok-dims.dims.items n n c.index.result.now l (same_default component c.loop-k.k 0 n l) refl c.in_ok-dims.ensures c.index.ensures c.in_ok-list.ensures c.loop-k.invariant)
+
+pub loop-k-init : goal.loop-k-init
+loop-k-init c = grind (arith, common_steps)

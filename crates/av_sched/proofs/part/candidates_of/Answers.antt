@@ -1,4 +1,5 @@
 use Rattle.std.proofs.Common.{◌≡◌, ◌∙◌, ◌+◌, ◌-◌, ◌^◌, min, ap, take, arith}
+use Rattle.std.proofs.lemmas.Grind.{common_steps}
 use Rattle.av_sched.specs.Parts.{indices_of}
 use Rattle.av_sched.proofs.Counting.{capped_power}
 use Rattle.av_sched.proofs.part.candidates_of.Goals as goal
@@ -9,3 +10,6 @@ loop-index-preserved c =
     let more = capped_power c.args.base (i + c.loop-index._index) (2 ^ 128 - 1) c.loop-index.number c.requires.base c.loop-index.invariant in
     let same : (i + c.loop-index._index) + 1 ≡ i + (c.loop-index._index + 1) = omega arith in
     c.saturating_mul-number.ensures ∙ more ∙ ap (λ j. min (c.args.base ^ j) (2 ^ 128 - 1)) same
+
+pub loop-k-preserved : goal.loop-k-preserved
+loop-k-preserved c = grind (arith, common_steps)

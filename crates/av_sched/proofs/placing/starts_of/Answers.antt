@@ -1,5 +1,6 @@
 use Rattle.std.proofs.Common.{◌≡◌, ◌∙◌, ◌<◌, ℤ, [], ◌∷◌, ◌++◌, ◌+◌, w64, FitsSigned, to_z-of_z, length, rules, arith, sym, ap, subst}
 use Rattle.std.proofs.Math.IntN.{neg_ℤ, neg_ℤ-neg_ℤ}
+use Rattle.std.proofs.lemmas.Grind.{common_steps}
 use Rattle.av_affine.specs.Numbers.{AtMost}
 use Rattle.av_flat.specs.Trees.{view_variable, view_system}
 use Rattle.av_sched.specs.Offsets.{part}
@@ -113,3 +114,6 @@ offset_bounds-linear-node c =
     let n : c.len-node.result ≡ length low = search rules in
     let within : c.len-node.result < length linear = (let m = r.within in omega (arith, n, m)) in
     omega arith
+
+pub returns-clause-starts : goal.returns-clause-starts
+returns-clause-starts c = grind (arith, common_steps)

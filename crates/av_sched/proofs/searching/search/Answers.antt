@@ -12,6 +12,7 @@ use Rattle.av_tree.specs.Points.{Point}
 use Rattle.std.proofs.lemmas.List.Elements.{All-weaker}
 use Rattle.av_sched.proofs.Whole.{not_none}
 use Rattle.std.proofs.lemmas.Option.{slice_get_within}
+use Rattle.std.proofs.lemmas.Grind.{common_steps}
 use Rattle.av_sched.specs.inner.FirstChoices.{AreFirstChoices, IsFirstInfeasible, IsStuck}
 use Rattle.av_sched.specs.SchedFaults.{HasManyCandidates}
 use Rattle.av_sched.proofs.Inside.{vectors_of}
@@ -113,3 +114,21 @@ returns-in-Some-2-clause-refused c = λ f is other.
     let few : All (λ d. candidates s c.args.reach.size d ≤ 4194304) cs = search rules in
     let chosen : AreFirstChoices s c.args.reach.size cs c.in-Found.linear.items = search rules in
     absurd (no_fault s c.args.reach.size cs c.in-Found.linear.items c.requires.chained c.args.reach.most are few chosen f is other)
+
+pub stuck_at-requires-clause-components : goal.stuck_at-requires-clause-components
+stuck_at-requires-clause-components c = grind (arith, common_steps)
+
+pub choose_all-requires-clause-components : goal.choose_all-requires-clause-components
+choose_all-requires-clause-components c = grind (arith, common_steps)
+
+pub too_many-requires : goal.too_many-requires
+too_many-requires c = grind (arith, common_steps)
+
+pub timed_of-requires : goal.timed_of-requires
+timed_of-requires c = grind (arith, common_steps)
+
+pub offsets-requires-clause-proper : goal.offsets-requires-clause-proper
+offsets-requires-clause-proper c = assumption
+
+pub offsets-requires-clause-chained : goal.offsets-requires-clause-chained
+offsets-requires-clause-chained c = assumption

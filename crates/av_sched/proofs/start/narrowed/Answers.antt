@@ -1,5 +1,6 @@
 use Rattle.std.proofs.Common.{◌≡◌, rules, arith, pos, ◌+ℤ◌, ◌≤ℤ◌, ◌<ℤ◌, [], ◌∷◌, w64, FitsSigned, to_z-of_z, sym}
 use Rattle.std.proofs.lemmas.Int.{ints}
+use Rattle.std.proofs.lemmas.Grind.{common_steps}
 use Rattle.av_affine.specs.Numbers.{dot}
 use Rattle.av_poly.specs.Points.{Has}
 use Rattle.av_tree.specs.Points.{Point}
@@ -81,3 +82,15 @@ returns-clause-closer c =
     let value_small = c.requires.spanned.value_small in
     let fn : FitsSigned w64 (m +ℤ pos 1) = omega (arith, ints, above, below, low_small, value_small) in
     simp to_z-of_z (closer_above c.args.low c.args.value m above below)
+
+pub products-requires-clause-z : goal.products-requires-clause-z
+products-requires-clause-z c = grind (arith, common_steps)
+
+pub products-requires-clause-linear : goal.products-requires-clause-linear
+products-requires-clause-linear c = grind (arith, common_steps)
+
+pub first_point-requires-clause-high : goal.first_point-requires-clause-high
+first_point-requires-clause-high c = assumption
+
+pub first_point-requires-clause-low : goal.first_point-requires-clause-low
+first_point-requires-clause-low c = assumption

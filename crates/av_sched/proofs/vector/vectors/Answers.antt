@@ -1,4 +1,5 @@
-use Rattle.std.proofs.Common.{rules, ◌≢◌, ◌∙◌, ◌<◌, ◌≤◌, ◌+◌, sym, subst, length, Any, pos}
+use Rattle.std.proofs.Common.{rules, ◌≢◌, ◌∙◌, ◌<◌, ◌≤◌, ◌+◌, sym, subst, length, Any, pos, arith}
+use Rattle.std.proofs.lemmas.Grind.{common_steps}
 use Rattle.av_sched.specs.inner.Vectors.{AreVectorsOf, AreLinearPartsTo}
 use Rattle.av_sched.proofs.Vectoring.{parts_skip, parts_more, parts_all}
 use Rattle.av_sched.proofs.vector.vectors.Goals.{else-dim-gt0-via-then-dim-gt0+else-not-has_entry, else-dim-gt0-via-else-dim-gt0}
@@ -33,3 +34,6 @@ returns c =
     let all = subst (AreVectorsOf c.args.reach.size c.args.dim) (sym c.deref-point-items.ensures.value) c.in_ok-all.ensures in
     let over : length points ≤ c.loop-point.point-index = search rules in
     parts_all c.args.reach.size c.args.dim points c.loop-point.list c.loop-point.point-index all over c.loop-point.invariant
+
+pub loop-point-init : goal.loop-point-init
+loop-point-init c = grind (arith, common_steps)
