@@ -1,4 +1,5 @@
-use Rattle.std.proofs.Common.{length, sym, subst}
+use Rattle.std.proofs.Common.{length, sym, subst, arith}
+use Rattle.std.proofs.lemmas.Grind.{common_steps}
 use Rattle.av_net.specs.Names.{all_names, width_of}
 use Rattle.av_net.proofs.Settles.{names_distinct}
 use Rattle.av_clock.specs.Gates.{AreAssigned}
@@ -24,3 +25,6 @@ pub returns : goal.returns
 returns c =
     let net = merged c.args.of.now c.args.merged.now.sources.items in
     drives_read net c.deref-assignment-items.result.now c.loop-i.i c.loop-i.lists.items (subst (AreAssigned net (length net.drives)) (sym c.deref-assignment-items.ensures.value) c.requires.assignments) c.loop-i.auto.i-end c.loop-i-test.false c.loop-i.invariant
+
+pub loop-i-init : goal.loop-i-init
+loop-i-init c = grind (arith, common_steps)

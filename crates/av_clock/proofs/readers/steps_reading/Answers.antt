@@ -1,4 +1,5 @@
-use Rattle.std.proofs.Common.{get_or, length, sym, subst}
+use Rattle.std.proofs.Common.{get_or, length, sym, subst, arith}
+use Rattle.std.proofs.lemmas.Grind.{common_steps}
 use Rattle.av_net.specs.Names.{all_names}
 use Rattle.av_net.proofs.Settles.{names_distinct}
 use Rattle.av_clock.specs.Gates.{AreStepped}
@@ -25,3 +26,6 @@ pub returns : goal.returns
 returns c =
     let net = merged c.args.of.now c.args.merged.now.sources.items in
     steps_read net c.deref-flip_flop-items.result.now c.loop-i.i c.loop-i.lists.items (subst (AreStepped net (length net.steps)) (sym c.deref-flip_flop-items.ensures.value) c.requires.flip_flops) c.loop-i.auto.i-end c.loop-i-test.false c.loop-i.invariant
+
+pub loop-i-init : goal.loop-i-init
+loop-i-init c = grind (arith, common_steps)

@@ -1,4 +1,5 @@
-use Rattle.std.proofs.Common.{◌≡◌, length, sym, subst, false, true}
+use Rattle.std.proofs.Common.{◌≡◌, length, sym, subst, false, true, arith}
+use Rattle.std.proofs.lemmas.Grind.{common_steps}
 use Rattle.av_net.specs.Names.{all_names}
 use Rattle.av_net.specs.Sound.{IsSound}
 use Rattle.av_clock.specs.Kept.{AreZero}
@@ -17,3 +18,6 @@ invariant_of-result c =
       first = λ none some. absurd (let e : true ≡ false = some in cc);
       shown = λ none flag. absurd (let e : false ≡ true = flag in cc);
     }
+
+pub returns-clause-of : goal.returns-clause-of
+returns-clause-of c = grind (arith, common_steps)

@@ -1,5 +1,6 @@
-use Rattle.std.proofs.Common.{◌≡◌, ◌∙◌, List, ℕ, length, map, ap, sym, subst}
+use Rattle.std.proofs.Common.{◌≡◌, ◌∙◌, List, ℕ, length, map, ap, sym, subst, arith}
 use Rattle.std.specs.Vec.{with_items}
+use Rattle.std.proofs.lemmas.Grind.{common_steps}
 use Rattle.av_clock.specs.declared.gate.FlipFlop.{FlipFlop}
 use Rattle.av_clock.specs.Gates.{AreAssigned, AreStepped}
 use Rattle.av_clock.specs.Merged.{merged, AreMerged}
@@ -21,3 +22,6 @@ returns c =
     is_merging c.args.of.now v c.in_ok-assignments.assignments c.in_ok-flip_flops.flip_flops c.args.self.now.flip_flops.items c.requires.sound (subst (AreMerged c.args.of.now) items c.in_ok-assignments.ensures.merged)
     (subst (λ (sources : List ℕ). AreAssigned (merged c.args.of.now sources) (length c.args.of.now.drives) c.in_ok-assignments.assignments.items) items c.in_ok-assignments.ensures.assigned) c.requires.stepped
     (c.in_ok-flip_flops.ensures ∙ ap (λ (sources : List ℕ). map (flip_flop_at_source sources) c.deref-3.result.now) c.deref-2.ensures.value ∙ ap (map (flip_flop_at_source v.items)) c.deref-3.ensures.value)
+
+pub merge-requires-clause-assigned : goal.merge-requires-clause-assigned
+merge-requires-clause-assigned c = grind (arith, common_steps)

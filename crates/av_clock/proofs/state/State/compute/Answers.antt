@@ -1,4 +1,5 @@
-use Rattle.std.proofs.Common.{List, ℕ, ◌∙◌, ap, sym, subst}
+use Rattle.std.proofs.Common.{List, ℕ, ◌∙◌, ap, sym, subst, arith}
+use Rattle.std.proofs.lemmas.Grind.{common_steps}
 use Rattle.av_clock.specs.Gates.{CanTake, gate_word}
 use Rattle.av_clock.proofs.Held.{marked_for, computed, computed_fits}
 use Rattle.av_clock.proofs.Marking.{set_within}
@@ -30,3 +31,18 @@ returns-clause-computed c =
     computed s.circuit c.args.drive c.index-assignments-drive.result s.words.items c.write.new.self.words.items c.word-word.result s.stale c.clear.new.self c.write.new.self.stale s.due c.write.new.self.due
     c.is_sound.ensures s.size for (c.word-word.ensures ∙ ap (λ ws. gate_word ws c.index-assignments-drive.result.gate) c.deref.ensures.value)
     (set_within s.stale c.args.drive c.requires.marked) s.fit c.requires.held c.clear.ensures c.write.ensures.words c.write.ensures.same c.write.ensures.ahead
+
+pub bounds-assignments-drive : goal.bounds-assignments-drive
+bounds-assignments-drive c = grind (arith, common_steps)
+
+pub clear-requires : goal.clear-requires
+clear-requires c = grind (arith, common_steps)
+
+pub offset_bounds-assignments-drive : goal.offset_bounds-assignments-drive
+offset_bounds-assignments-drive c = grind (arith, common_steps)
+
+pub invariant_of-self : goal.invariant_of-self
+invariant_of-self c = grind (arith, common_steps)
+
+pub invariant_of-self-2 : goal.invariant_of-self-2
+invariant_of-self-2 c = grind (arith, common_steps)

@@ -1,5 +1,6 @@
-use Rattle.std.proofs.Common.{List, ℕ, length, ◌∙◌, ap, sym, subst, replicate, false}
+use Rattle.std.proofs.Common.{List, ℕ, length, ◌∙◌, ap, sym, subst, replicate, false, arith}
 use Rattle.std.proofs.lemmas.List.{length-replicate}
+use Rattle.std.proofs.lemmas.Grind.{common_steps}
 use Rattle.av_net.specs.Names.{all_names}
 use Rattle.av_clock.specs.Named.{AllFit}
 use Rattle.av_clock.proofs.Views.{zeros_fit}
@@ -17,3 +18,9 @@ invariant_of-result c =
       stale_size = ap length c.in_ok-stale.ensures ∙ length-replicate c.drives.result false ∙ c.drives.ensures;
       due_size = ap length c.in_ok-due.ensures ∙ length-replicate c.steps-3.result false ∙ c.steps-3.ensures;
     }
+
+pub returns-clause-circuit : goal.returns-clause-circuit
+returns-clause-circuit c = grind (arith, common_steps)
+
+pub same-circuit : goal.same-circuit
+same-circuit c = grind (arith, common_steps)

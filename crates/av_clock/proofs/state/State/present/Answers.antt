@@ -1,4 +1,5 @@
-use Rattle.std.proofs.Common.{List, ℕ, subst, sym}
+use Rattle.std.proofs.Common.{List, ℕ, subst, sym, arith}
+use Rattle.std.proofs.lemmas.Grind.{common_steps}
 use Rattle.av_net.specs.declared.netlist.Module.{Module}
 use Rattle.av_clock.specs.Kept.{AreZero}
 use Rattle.av_clock.specs.Marked.{AreHeld}
@@ -33,3 +34,6 @@ returns-else-dense-clause-zeros c = λ zeros.
     let t = c.write.new.self in
     subst (λ (m : Module). AreZero m t.words.items) (sym c.write.ensures.circuit) (subst (λ (ws : List ℕ). AreZero s.circuit ws) (sym c.write.ensures.words)
     (set_zero s.circuit s.words.items c.args.port c.args.value c.is_sound.ensures s.size c.requires.port zeros))
+
+pub write-requires-clause-place : goal.write-requires-clause-place
+write-requires-clause-place c = grind (arith, common_steps)

@@ -1,4 +1,5 @@
-use Rattle.std.proofs.Common.{List, ℕ, Bool, true, sym, subst, slice_index_or}
+use Rattle.std.proofs.Common.{List, ℕ, Bool, true, sym, subst, slice_index_or, arith}
+use Rattle.std.proofs.lemmas.Grind.{common_steps}
 use Rattle.av_net.specs.declared.netlist.Module.{Module}
 use Rattle.av_clock.specs.Marked.{AreHeld}
 use Rattle.av_clock.specs.inner.State.{named_words}
@@ -35,3 +36,6 @@ returns-clause-held c = λ held.
 
 pub returns-clause-zeros : goal.returns-clause-zeros
 returns-clause-zeros c = zeros_stored _ c.reset_words.new.self c.store_taken.new.self c.reset_words.ensures.kept c.store_taken.ensures.circuit c.is_sound.ensures c.store_taken.ensures.others
+
+pub invariant_of-self : goal.invariant_of-self
+invariant_of-self c = grind (arith, common_steps)

@@ -1,4 +1,5 @@
 use Rattle.std.proofs.Common.{List, ℕ, ◌∙◌, ◌<◌, ◌≤◌, true, ap, sym, subst, get_or, length, arith}
+use Rattle.std.proofs.lemmas.Grind.{common_steps}
 use Rattle.av_clock.specs.Gates.{AreTaken}
 use Rattle.av_clock.proofs.Edges.{no_flip_flop, for_read, reset_more, taken_all, taken_itself}
 use Rattle.av_clock.proofs.Views.{new_items}
@@ -22,3 +23,9 @@ returns-clause-words c = λ old.
     let past : length s.circuit.steps ≤ c.loop-i.i = (let count = c.flip_flops-flip_flop-items.ensures.count in let e = c.loop-i-test.false in omega (arith, count, e)) in
     subst (λ (ws : List ℕ). AreTaken s.circuit true old (length s.circuit.steps) ws) (sym (new_items s.next _ c.loop-i.next c.loop-i.auto.next c.as_mut_slice-next.ensures.value))
     (taken_all s.circuit true old c.loop-i.i c.loop-i.next past (c.loop-i.invariant.0 old))
+
+pub invariant_of-self : goal.invariant_of-self
+invariant_of-self c = grind (arith, common_steps)
+
+pub returns-clause-steps : goal.returns-clause-steps
+returns-clause-steps c = grind (arith, common_steps)

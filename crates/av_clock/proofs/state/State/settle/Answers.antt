@@ -1,4 +1,5 @@
 use Rattle.std.proofs.Common.{List, ℕ, ◌<◌, ◌∙◌, length, ap, sym, subst, arith}
+use Rattle.std.proofs.lemmas.Grind.{common_steps}
 use Rattle.av_net.specs.Names.{given_names}
 use Rattle.av_net.specs.Settled.{Settled, Agree}
 use Rattle.av_clock.specs.Named.{named}
@@ -48,3 +49,6 @@ returns-clause-given c =
     subst (λ (ws : List ℕ). Agree (given_names s.circuit) (named s.circuit s.words.items) (named s.circuit ws)) (sym (new_items s.words _ c.loop-assignment.words c.loop-assignment.auto.words c.as_mut_slice-words.ensures.value))
     (have_settled s.circuit all.assignments c.computed-assignment-items.result.now s.words.items c.loop-assignment.words c.loop-assignment.assignment-index c.is_sound.ensures s.size all.assigned all.filtered
     c.requires.zeros c.loop-assignment-test.false c.loop-assignment.invariant).given
+
+pub invariant_of-self : goal.invariant_of-self
+invariant_of-self c = grind (arith, common_steps)

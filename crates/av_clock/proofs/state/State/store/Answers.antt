@@ -1,4 +1,5 @@
 use Rattle.std.proofs.Common.{List, ℕ, ◌∙◌, ◌<◌, ap, sym, subst, length, get_or, arith}
+use Rattle.std.proofs.lemmas.Grind.{common_steps}
 use Rattle.av_net.specs.Names.{names_of}
 use Rattle.av_net.specs.Settled.{Agree}
 use Rattle.av_clock.specs.Named.{named}
@@ -43,3 +44,9 @@ returns-clause-zeros c = λ zeros.
     let s = c.args.self.now in
     subst (λ (ws : List ℕ). AreZero s.circuit ws) (sym (new_items s.words _ c.loop-i.words c.loop-i.auto.words c.as_mut_slice-words.ensures.value))
     (edge_zero s.circuit s.words.items c.loop-i.words c.is_sound.ensures c.loop-i.invariant.others zeros)
+
+pub invariant_of-self : goal.invariant_of-self
+invariant_of-self c = grind (arith, common_steps)
+
+pub returns-clause-registers : goal.returns-clause-registers
+returns-clause-registers c = grind (arith, common_steps)

@@ -1,4 +1,5 @@
-use Rattle.std.proofs.Common.{◌≡◌, ◌∙◌, ℕ, List, Some, ap, sym, subst, get_or, set, slice_get, length}
+use Rattle.std.proofs.Common.{◌≡◌, ◌∙◌, ℕ, List, Some, ap, sym, subst, get_or, set, slice_get, length, arith}
+use Rattle.std.proofs.lemmas.Grind.{common_steps, elements}
 use Rattle.av_base.specs.Words.{IsWord}
 use Rattle.av_net.specs.declared.netlist.Module.{Module}
 use Rattle.av_net.specs.Names.{all_names, width_of}
@@ -50,3 +51,12 @@ returns-clause-registers c =
     let first = c.args.self.now in
     let s = c.loop-i.self in
     all_given first.circuit first.words.items s.words.items first.stale s.stale first.due s.due first.taken.items first.next.items c.args.count c.loop-i.i c.loop-i-test.false c.loop-i.invariant.3
+
+pub offset_bounds-flip_flops-index : goal.offset_bounds-flip_flops-index
+offset_bounds-flip_flops-index c = grind (arith, elements)
+
+pub loop-i-init : goal.loop-i-init
+loop-i-init c = grind (arith, common_steps)
+
+pub invariant_of-self-in-loop-i-2 : goal.invariant_of-self-in-loop-i-2
+invariant_of-self-in-loop-i-2 c = grind (arith, common_steps)

@@ -1,5 +1,6 @@
 use Rattle.std.proofs.Common.{◌≡◌, ◌<◌, ◌∙◌, ap, false, get_or, length, arith}
 use Rattle.std.proofs.Math.ListN.{length-set}
+use Rattle.std.proofs.lemmas.Grind.{common_steps}
 use Rattle.av_clock.specs.Gates.{reading_word}
 use Rattle.av_clock.proofs.Edges.{no_flip_flop, for_read, next_within}
 use Rattle.av_clock.proofs.Taking.{takes_more}
@@ -21,3 +22,18 @@ loop-step-preserved c =
     takes_more s.circuit s.words.items s.due c.loop-step.due c.clear.new.self c.loop-step.taken c.loop-step.next c.loop-step.count c.loop-step.step c.word.result c.next-step-in-loop-step.result (get_or c.flip_flops-flip_flops.result.now c.loop-step.step no_flip_flop)
     c.is_sound.ensures s.size c.requires.held.steps s.due_size within for (c.word.ensures ∙ ap (λ ws. reading_word ws (get_or c.flip_flops-flip_flops.result.now c.loop-step.step no_flip_flop).next) c.as_slice-words.ensures.value) c.clear.ensures
     c.next-step-in-loop-step.ensures.within c.next-step-in-loop-step.ensures.clear c.next-step-in-loop-step.ensures.set (c.next-step-in-loop-step.ensures.later (omega (arith, long, size, s.due_size, within))) c.loop-step.invariant
+
+pub returns-clause-taken : goal.returns-clause-taken
+returns-clause-taken c = grind (arith, common_steps)
+
+pub returns-clause-within : goal.returns-clause-within
+returns-clause-within c = grind (arith, common_steps)
+
+pub invariant_of-self : goal.invariant_of-self
+invariant_of-self c = grind (arith, common_steps)
+
+pub loop-step-init : goal.loop-step-init
+loop-step-init c = grind (arith, common_steps)
+
+pub loop-step-smaller : goal.loop-step-smaller
+loop-step-smaller c = grind (arith, common_steps)

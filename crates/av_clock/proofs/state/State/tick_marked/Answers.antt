@@ -1,4 +1,5 @@
-use Rattle.std.proofs.Common.{List, ℕ, Bool, false, sym, subst, slice_index_or}
+use Rattle.std.proofs.Common.{List, ℕ, Bool, false, sym, subst, slice_index_or, arith}
+use Rattle.std.proofs.lemmas.Grind.{common_steps}
 use Rattle.av_net.specs.declared.netlist.Module.{Module}
 use Rattle.av_net.specs.Meaning.{word_of}
 use Rattle.av_clock.specs.Marked.{AreHeld}
@@ -40,3 +41,6 @@ returns-clause-held c =
 
 pub returns-clause-zeros : goal.returns-clause-zeros
 returns-clause-zeros c = zeros_stored _ c.take_due-count.new.self c.store_taken.new.self c.take_due-count.ensures.kept c.store_taken.ensures.circuit c.is_sound.ensures c.store_taken.ensures.others
+
+pub invariant_of-self : goal.invariant_of-self
+invariant_of-self c = grind (arith, common_steps)

@@ -1,5 +1,5 @@
-use Rattle.std.proofs.Common.{◌∙◌}
-use Rattle.std.proofs.lemmas.Grind.{get_or_default_zero}
+use Rattle.std.proofs.Common.{◌∙◌, arith}
+use Rattle.std.proofs.lemmas.Grind.{get_or_default_zero, common_steps}
 use Rattle.av_clock.proofs.Held.{written_read, written_fit}
 use Rattle.av_clock.proofs.Touched.{written_touched}
 use Rattle.av_clock.proofs.state.State.write.Goals as goal
@@ -20,3 +20,6 @@ returns-then-index-word-clause-touched c =
     let s = c.args.self.now in
     written_touched s.circuit s.words.items c.args.place c.args.word s.stale c.mark_readers.new.stale c.is_sound.ensures s.size c.requires.place
     (λ e. c.if-index-word.true (c.index.ensures ∙ get_or_default_zero s.words.items c.args.place c.index.result.now c.requires.place ∙ e)) c.mark_readers.ensures.others
+
+pub invariant_of-self-clause-size : goal.invariant_of-self-clause-size
+invariant_of-self-clause-size c = grind (arith, common_steps)
