@@ -1,4 +1,5 @@
-use Rattle.std.proofs.Common.{◌≤◌, ◌<◌, ◌∙◌, length, rules}
+use Rattle.std.proofs.Common.{◌≤◌, ◌<◌, ◌∙◌, length, rules, arith}
+use Rattle.std.proofs.lemmas.Grind.{common_steps}
 use Rattle.av_check.proofs.Reaching.{way_limits, way_next, way_done, way_ended}
 use Rattle.av_check.proofs.images.image_under.Goals as goal
 
@@ -17,3 +18,6 @@ returns-clause-image c =
     let l : length c.args.under.now ≤ c.loop-outer.outer-index = search rules in
     let ended = way_ended c.args.own.now c.args.under.now c.args.z.now c.loop-outer.whole c.loop-outer.outer-index l c.loop-outer.invariant in
     c.apply.ensures.image ∙ way_done c.args.own.now c.args.under.now c.args.z.now c.loop-outer.whole c.requires.stands.chain ended
+
+pub apply-requires-clause-fits : goal.apply-requires-clause-fits
+apply-requires-clause-fits c = grind (arith, common_steps)

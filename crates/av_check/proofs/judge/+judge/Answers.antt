@@ -1,5 +1,6 @@
-use Rattle.std.proofs.Common.{◌≡◌, ◌<◌, length, map, true, false, None, List, ap, sym, subst, ◌∙◌, rules}
+use Rattle.std.proofs.Common.{◌≡◌, ◌<◌, length, map, true, false, None, List, ap, sym, subst, ◌∙◌, rules, arith}
 use Rattle.std.proofs.lemmas.Result.{IfOk-weaker}
+use Rattle.std.proofs.lemmas.Grind.{common_steps}
 use Rattle.av_flat.specs.declared.tree.Tree.{Tree as TreeMade}
 use Rattle.av_flat.specs.Trees.{Tree, view, trees_of, view_variable, cases}
 use Rattle.av_flat.specs.Signatures.{signature}
@@ -98,3 +99,6 @@ judge_all-loop-tree-preserved t c =
           c.loop-tree.invariant.so_far c.in_ok-own.ensures;
       stand = (next_stands vs c.args.under.now trees i c.tree-item.result c.args.z.now l c.tree-item.is c.loop-tree.invariant.stand).1;
     }
+
+pub judge-judge_reference-requires-clause-fits : goal.judge-judge_reference-requires-clause-fits
+judge-judge_reference-requires-clause-fits t c = grind (arith, common_steps)

@@ -1,4 +1,5 @@
-use Rattle.std.proofs.Common.{◌≡◌, ◌↔◌, ◌<◌, ◌∙◌, ◌++◌, ◌∷◌, [], ℕ, ℤ, All, length, List, ap, subst, rules}
+use Rattle.std.proofs.Common.{◌≡◌, ◌↔◌, ◌<◌, ◌∙◌, ◌++◌, ◌∷◌, [], ℕ, ℤ, All, length, List, ap, subst, rules, arith}
+use Rattle.std.proofs.lemmas.Grind.{common_steps}
 use Rattle.av_poly.specs.Points.{Set, Has}
 use Rattle.av_elim.specs.Extents.{IsInside}
 use Rattle.av_check.specs.inner.Coverage.{IsInAny}
@@ -23,3 +24,12 @@ loop-set-preserved c =
       inside = subst (λ (n : ℕ). All (IsInside n c.args.extent.now) c.in_ok-left.left) (ap (λ (s : Set). s.dim) c.domain.view_is) c.in_ok-left.ensures.inside;
       points = left_more c.args.domain.now c.args.sets.now c.loop-set.left c.in_ok-left.left c.loop-set.set-index set l c.set-item.is own c.loop-set.invariant.points;
     }
+
+pub returns-clause-points : goal.returns-clause-points
+returns-clause-points c = grind (arith, common_steps)
+
+pub left_outside-requires-clause-low : goal.left_outside-requires-clause-low
+left_outside-requires-clause-low c = grind (arith, common_steps)
+
+pub left_outside-requires-clause-high : goal.left_outside-requires-clause-high
+left_outside-requires-clause-high c = grind (arith, common_steps)

@@ -1,5 +1,6 @@
-use Rattle.std.proofs.Common.{◌↔◌, ◌≤◌, ◌<◌, ℤ, length, List, sym, subst, rules}
+use Rattle.std.proofs.Common.{◌↔◌, ◌≤◌, ◌<◌, ℤ, length, List, sym, subst, rules, arith}
 use Rattle.std.proofs.lemmas.List.{take_all}
+use Rattle.std.proofs.lemmas.Grind.{common_steps}
 use Rattle.av_poly.specs.Points.{Set, Has}
 use Rattle.av_check.specs.inner.Coverage.{IsInAny}
 use Rattle.av_check.proofs.Counting.{outside_more}
@@ -20,3 +21,9 @@ pub returns-clause-points : goal.returns-clause-points
 returns-clause-points c = λ z.
     let l : length c.args.parts.now ≤ c.loop-part.part-index = search rules in
     subst (λ (ps : List Set). IsInAny c.loop-part.left z ↔ (IsInAny ps z × (Has c.args.set.now z → ⊥))) (take_all c.loop-part.part-index c.args.parts.now l) (c.loop-part.invariant.points z)
+
+pub append_parts-requires-clause-parts : goal.append_parts-requires-clause-parts
+append_parts-requires-clause-parts c = grind (arith, common_steps)
+
+pub loop-part-init : goal.loop-part-init
+loop-part-init c = grind (arith, common_steps)
