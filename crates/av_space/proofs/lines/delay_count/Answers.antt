@@ -2,6 +2,7 @@ use Rattle.std.proofs.Common.{refl, sym, ap, subst, get_or, ◌∙◌, arith}
 use Rattle.std.specs.Prelude.{unwrap_or}
 use Rattle.std.specs.Map.{lookup}
 use Rattle.std.specs.Ordering.{is_eq}
+use Rattle.std.proofs.lemmas.Grind.{common_steps}
 use Rattle.av_flat.specs.declared.timed.Timed.{Timed}
 use Rattle.av_flat.specs.Trees.{view_system}
 use Rattle.av_space.specs.declared.cells.Link.{Link}
@@ -36,3 +37,6 @@ loop-link-preserved c =
     c.loop-link.lengths c.lengthened.new.lengths c.line_of-line.result c.line_of-line.ensures (get_or c.args.links.now c.loop-link.link-index none).delay refl inv.lengths c.loop-link.count c.from.result inv.count (e ∙ b) c.in_ok-lengthened.ensures.all in
     let few = c.in_ok-lengthened.ensures.small in
     record { lengths = r.0; count = r.1; small = (let s = inv.small in omega (arith, s, few, e)) }
+
+pub returns : goal.returns
+returns c = grind (arith, common_steps)

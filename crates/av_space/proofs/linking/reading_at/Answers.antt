@@ -1,6 +1,7 @@
 use Rattle.std.proofs.Common.{rules, ◌≤◌, ◌^◌, length, arith, sym, subst, ◌∙◌, IsTrue}
 use Rattle.std.specs.Prelude.{unsigned_abs}
 use Rattle.std.proofs.lemmas.List.Elements.{All-weaker}
+use Rattle.std.proofs.lemmas.Grind.{common_steps}
 use Rattle.av_flat.specs.declared.timed.Timed.{Timed}
 use Rattle.av_flat.specs.Points.{has}
 use Rattle.av_flat.specs.Trees.{view, view_piece, view_system}
@@ -56,3 +57,9 @@ returns c =
       reading = only_reading c.args.scheduled.now.timed c.args.scheduled.now.layout c.timed-timed.ensures.scheduled.legal c.timed-timed.ensures.scheduled.layout s.2.consumer s.2.number c.args.node (tap_of c.args.site.now) (view_piece c.args.piece.now) s.0 s.2.is c.args.slot.now.cycle c.args.slot.now.point s.1 inside
           c.in_ok-read.read.node c.in_ok-read.read.point read c.locate-located.result.cell c.locate-located.result.cycle c.locate-located.ensures;
     }
+
+pub returns-in_err-read-clause-reading : goal.returns-in_err-read-clause-reading
+returns-in_err-read-clause-reading c = grind (arith, common_steps)
+
+pub returns-in_err-read-clause-cycle : goal.returns-in_err-read-clause-cycle
+returns-in_err-read-clause-cycle c = cc

@@ -1,6 +1,7 @@
-use Rattle.std.proofs.Common.{◌≡◌, ◌+◌, ◌<◌, ◌++◌, List, take, sym, ap, subst, ◌∙◌, append-nil}
+use Rattle.std.proofs.Common.{◌≡◌, ◌+◌, ◌<◌, ◌++◌, List, take, sym, ap, subst, ◌∙◌, append-nil, arith}
 use Rattle.std.specs.Prelude.{AllPairs, Contains}
 use Rattle.std.proofs.lemmas.List.Kept.{AllPairs-filter}
+use Rattle.std.proofs.lemmas.Grind.{common_steps}
 use Rattle.av_flat.specs.Points.{has}
 use Rattle.av_flat.specs.Trees.{view_piece, view_system}
 use Rattle.av_space.specs.declared.layout.Slot.{Slot}
@@ -39,3 +40,6 @@ loop-slot-preserved c =
       | in_default w ↦ (ap (λ o. rs ++ listed o) w.in_default.is ∙ append-nil rs ∙ sym w.readings-is)
     ] in
     subst (AreReadings (IsReadingOf s placings cells c.args.node t piece (take (c.loop-slot.slot-index + 1) slots))) new next
+
+pub returns : goal.returns
+returns c = grind (arith, common_steps)

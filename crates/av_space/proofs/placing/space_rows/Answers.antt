@@ -1,4 +1,5 @@
 use Rattle.std.proofs.Common.{◌≡◌, ◌∙◌, ◌∷◌, take, map, sym, ap, arith, subst, ℕ}
+use Rattle.std.proofs.lemmas.Grind.{common_steps}
 use Rattle.av_affine.specs.Completion.{first_row, rows_of, IsCompletion}
 use Rattle.av_space.proofs.placing.space_rows.Goals as goal
 
@@ -17,3 +18,9 @@ returns c =
       primitive = q.primitive;
       rule = subst (IsCompletion (first_row m)) (sym rows) q.rule;
     }
+
+pub loop-k-preserved : goal.loop-k-preserved
+loop-k-preserved c = grind (arith, common_steps)
+
+pub from_slice-requires : goal.from_slice-requires
+from_slice-requires c = grind (arith, common_steps)

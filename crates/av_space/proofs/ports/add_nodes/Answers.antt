@@ -1,5 +1,6 @@
 use Rattle.std.proofs.Common.{rules, ◌≤◌, length, arith}
 use Rattle.std.proofs.lemmas.Option.{slice_get_within}
+use Rattle.std.proofs.lemmas.Grind.{common_steps}
 use Rattle.av_flat.specs.Nodes.{nodes}
 use Rattle.av_flat.specs.Trees.{view_system}
 use Rattle.av_space.proofs.Fed.{all_ports}
@@ -14,3 +15,6 @@ returns-clause-ports c =
     let many : length (nodes s) ≤ c.loop-node.node = (let count = c.node_count-node-end.ensures in omega (arith, over, count)) in
     all_ports s t.helpers l.placements l.cells c.loop-node.node c.loop-node.first c.loop-node.ports
     (λ port is. let a = slice_get_within (nodes s) is.4.node is.4.variable is.4.is_variable in omega (arith, a, many)) c.loop-node.invariant.0
+
+pub loop-node-preserved : goal.loop-node-preserved
+loop-node-preserved c = grind (arith, common_steps)

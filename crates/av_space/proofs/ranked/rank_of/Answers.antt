@@ -1,6 +1,7 @@
 use Rattle.std.proofs.Common.{rules, ◌≡◌, ◌∙◌, ◌<◌, pos, ◌+ℤ◌, length, get_or, sym, ap, arith, subst, FitsSigned, to_z, of_z, to_z-of_z, w64}
 use Rattle.std.proofs.lemmas.Int.{ints}
 use Rattle.std.proofs.lemmas.List.{drop_more}
+use Rattle.std.proofs.lemmas.Grind.{common_steps}
 use Rattle.av_affine.specs.Numbers.{AtMost}
 use Rattle.av_affine.proofs.Dots.{entry_most}
 use Rattle.av_space.specs.inner.Laying.{rank_from}
@@ -41,3 +42,6 @@ loop-k-preserved c =
 
 pub returns-clause-fits : goal.returns-clause-fits
 returns-clause-fits c = (let w = wide c.loop-k.k (omega (arith, c.loop-k.auto.k-end, c.as_slice-entries.ensures.fits)) in let b = c.loop-k.invariant.fits in omega (arith, w, b))
+
+pub overflow_cast-digit : goal.overflow_cast-digit
+overflow_cast-digit c = grind (arith, common_steps)

@@ -1,7 +1,8 @@
-use Rattle.std.proofs.Common.{◌≡◌, ◌∙◌, List, map, take, get_or, ap, subst}
+use Rattle.std.proofs.Common.{◌≡◌, ◌∙◌, List, map, take, get_or, ap, subst, arith}
 use Rattle.std.specs.Prelude.{Contains}
 use Rattle.std.proofs.lemmas.List.{take_all}
 use Rattle.std.proofs.lemmas.Option.{slice_get-get_or}
+use Rattle.std.proofs.lemmas.Grind.{common_steps}
 use Rattle.av_flat.specs.declared.timed.Helper.{Helper}
 use Rattle.av_flat.specs.Trees.{view}
 use Rattle.av_space.specs.declared.spots.Site.{Site}
@@ -28,3 +29,6 @@ returns c =
         pipeline = subst (λ (hs : List Helper). (get_or sites k d).pipeline ≡ pipeline_by hs at.place (place_of (get_or sites k d).place) (view (get_or sites k d).place.tree)) c.as_slice-helpers.ensures (c.loop-place.invariant.pipelines k d l);
       };
     }
+
+pub loop-place-preserved : goal.loop-place-preserved
+loop-place-preserved c = grind (arith, common_steps)

@@ -1,6 +1,7 @@
 use Rattle.std.proofs.Common.{◌≡◌, ◌∙◌, ℕ, ◌<◌, List, length, get_or, refl, sym, ap, subst, arith, Some}
 use Rattle.std.specs.Prelude.{slice_get, filter}
 use Rattle.std.proofs.lemmas.Option.{slice_get-get_or}
+use Rattle.std.proofs.lemmas.Grind.{common_steps}
 use Rattle.av_flat.specs.declared.timed.Timed.{Timed}
 use Rattle.av_flat.specs.Nodes.{nodes, node_place}
 use Rattle.av_flat.specs.Points.{has}
@@ -58,3 +59,6 @@ returns c =
         are_slots = subst (λ (slots : List Slot). AreSlotsIn a k here.node set slots) (sym c.in_ok-slots.ensures) (subst (λ (n : ℕ). AreSlotsIn a k n set (filter (λ (t : Slot). has set t.point) c.slots.result.now)) node own);
       },
     )
+
+pub piece_at-piece-requires : goal.piece_at-piece-requires
+piece_at-piece-requires c = grind (arith, common_steps)

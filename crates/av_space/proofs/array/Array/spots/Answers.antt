@@ -1,6 +1,7 @@
 use Rattle.std.proofs.Common.{◌≡◌, ℕ, Bool, true, false, ◌∙◌, ◌+◌, ◌<◌, List, length, sym, ap, subst, arith}
 use Rattle.std.specs.Prelude.{nat_eq}
 use Rattle.std.proofs.lemmas.List.{length-map}
+use Rattle.std.proofs.lemmas.Grind.{common_steps}
 use Rattle.av_flat.specs.declared.flat.Piece.{Piece}
 use Rattle.av_flat.specs.Trees.{view_piece, view_variable}
 use Rattle.av_space.specs.declared.layout.Slot.{Slot}
@@ -39,3 +40,9 @@ returns c =
     let size = length-map var.pieces view_piece in
     let all = ap (λ (x : List Piece). length x) c.as_slice-number-end.ensures in
     all_spots a c.args.cell c.loop-number.number c.loop-number.spots v.cell (view_variable var) v.is_cell v.is_variable (omega (arith, done, size, all)) c.loop-number.invariant
+
+pub spot-requires-clause-piece : goal.spot-requires-clause-piece
+spot-requires-clause-piece c = grind (arith, common_steps)
+
+pub loop-number-init : goal.loop-number-init
+loop-number-init c = grind (arith, common_steps)
