@@ -1,4 +1,5 @@
 use Rattle.std.proofs.Common.{◌∙◌, ◌++◌, List, length, map, take, ap, arith}
+use Rattle.std.proofs.lemmas.Grind.{common_steps}
 use Rattle.av_build.specs.declared.blueprint.HelperPlan.{HelperPlan}
 use Rattle.av_build.specs.declared.blueprint.LanePlan.{LanePlan}
 use Rattle.av_build.specs.inner.Blueprints.{of_helper}
@@ -24,3 +25,12 @@ returns-clause-lanes c =
     let whole = whole_cell c.args.cell c.in_ok-pieces.pieces helpers c.args.lanes.now c.loop-helper.lanes c.push-2.new.self n c.in_ok-helpers.ensures (omega (arith, end, many))
     (c.loop-helper.invariant ∙ ap (λ (l : List HelperPlan). c.args.lanes.now ++ map (of_helper c.args.cell) (take n l)) c.as_slice-helper-items.ensures) c.in_ok-push-2.ensures.ok in
     whole.0
+
+pub loop-helper-preserved : goal.loop-helper-preserved
+loop-helper-preserved c = grind (arith, common_steps)
+
+pub returns-clause-pieces : goal.returns-clause-pieces
+returns-clause-pieces c = grind (arith, common_steps)
+
+pub returns-clause-first : goal.returns-clause-first
+returns-clause-first c = grind (arith, common_steps)

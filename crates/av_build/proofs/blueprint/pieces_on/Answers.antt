@@ -1,5 +1,6 @@
-use Rattle.std.proofs.Common.{◌≡◌, ◌∙◌, List, length, map, sym, ap, subst}
+use Rattle.std.proofs.Common.{◌≡◌, ◌∙◌, List, length, map, sym, ap, subst, arith}
 use Rattle.std.specs.Prelude.{slice_get}
+use Rattle.std.proofs.lemmas.Grind.{common_steps}
 use Rattle.av_space.specs.declared.spots.Site.{Site}
 use Rattle.av_space.specs.declared.spots.Spot.{Spot}
 use Rattle.av_space.specs.Spots.{AreSpots, AreSites}
@@ -27,3 +28,6 @@ returns c =
       one_each = all.0 ∙ ap (λ (l : List Spot). length l) (sym again);
       sites = λ k spot own is_spot is_own. all.1 k spot own (ap (λ (l : List Spot). slice_get l k) (sym again) ∙ is_spot) is_own;
     }
+
+pub loop-spot-init : goal.loop-spot-init
+loop-spot-init c = grind (arith, common_steps)

@@ -1,4 +1,5 @@
 use Rattle.std.proofs.Common.{subst, arith, ◌∙◌, sym, ap}
+use Rattle.std.proofs.lemmas.Grind.{common_steps, elements}
 use Rattle.av_space.specs.declared.layout.Slot.{Slot}
 use Rattle.av_kinds.specs.Counters.{count_in}
 use Rattle.av_build.proofs.Pairwise.{element}
@@ -28,3 +29,9 @@ returns-then-number-least c =
     let number = c.number.ensures ∙ ap (λ (x : Slot). count_in c.args.counter x.cycle) (sym c.index-slots-k.is) in
     let least = c.number-least.ensures ∙ ap (λ (x : Slot). count_in c.args.counter x.cycle) (sym c.index-slots-0.is) in
     start_here (count_in c.args.counter) slots first is_first k (subst (λ n. AreHigh (count_in c.args.counter) slots n k) least c.loop-k.invariant) t is (omega (arith, low, number, least))
+
+pub returns-then-is_empty : goal.returns-then-is_empty
+returns-then-is_empty c = grind (arith, common_steps)
+
+pub returns : goal.returns
+returns c = grind (arith, elements)

@@ -1,6 +1,7 @@
 use Rattle.std.proofs.Common.{◌≡◌, ◌∙◌, List, length, inl, inr, arith, sym, ap, subst}
 use Rattle.std.specs.Prelude.{slice_get}
 use Rattle.std.proofs.lemmas.Bool.{cases_lt}
+use Rattle.std.proofs.lemmas.Grind.{elements}
 use Rattle.av_base.proofs.Lists.{some_is}
 use Rattle.av_space.specs.declared.spots.Site.{Site}
 use Rattle.av_space.proofs.Elements.{in_range}
@@ -67,3 +68,6 @@ unreachable-requires c =
     let many = ap (λ (l : List SpotPlan). length l) c.as_slice-spots.ensures in
     let end = c.loop-k-test.false in
     c.loop-k.invariant p.number p.at (omega (arith, low, many, end)) (ap (λ (l : List SpotPlan). slice_get l p.number) c.as_slice-spots.ensures ∙ p.is_spot) p.is_piece
+
+pub bounds-as_slice-k : goal.bounds-as_slice-k
+bounds-as_slice-k c = grind (arith, elements)

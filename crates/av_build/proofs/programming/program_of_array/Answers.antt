@@ -1,4 +1,5 @@
 use Rattle.std.proofs.Common.{◌≡◌, ◌∙◌, length, arith, ap}
+use Rattle.std.proofs.lemmas.Grind.{common_steps}
 use Rattle.av_flat.specs.declared.timed.Timed.{Timed}
 use Rattle.av_space.specs.declared.array.Array.{Array}
 use Rattle.av_space.specs.Spots.{helpers_of}
@@ -18,3 +19,9 @@ from_blueprint-requires-clause-ranks c =
     let many : length (helpers_of c.in_ok-blueprint.blueprint.array) ≡ length c.args.timed.now.helpers = ap (λ (t : Timed). length t.helpers) timed in
     let most = c.len.ensures.most in
     omega (arith, many, most)
+
+pub from_blueprint-requires-clause-blueprint : goal.from_blueprint-requires-clause-blueprint
+from_blueprint-requires-clause-blueprint c = grind (arith, common_steps)
+
+pub from_blueprint-requires-clause-timed : goal.from_blueprint-requires-clause-timed
+from_blueprint-requires-clause-timed c = grind (arith, common_steps)

@@ -1,5 +1,6 @@
 use Rattle.std.proofs.Common.{◌≡◌, ◌∙◌, ◌+◌, ◌++◌, ◌∷◌, [], ℕ, List, length, get_or, arith, sym, ap, subst}
 use Rattle.std.proofs.lemmas.Option.{get_or_from_slice_get}
+use Rattle.std.proofs.lemmas.Grind.{common_steps}
 use Rattle.av_base.proofs.Lists.{there_is}
 use Rattle.av_build.specs.inner.Lanes.{HasNoKind, IsKind}
 use Rattle.av_build.proofs.Pairwise.{element}
@@ -45,3 +46,6 @@ returns c =
     let low = c.loop-number.auto.number-end in
     let high = c.loop-number-test.false in
     kinds_are c.args.cells.now c.loop-number.firsts c.loop-number.kinds c.loop-number.number (omega (arith, low, high)) c.loop-number.invariant
+
+pub loop-number-init : goal.loop-number-init
+loop-number-init c = grind (arith, common_steps)

@@ -1,6 +1,7 @@
 use Rattle.std.proofs.Common.{◌≡◌, ◌∙◌, ℕ, List, length, get_or, refl, sym, ap, arith, inl, inr, None}
 use Rattle.std.specs.Prelude.{slice_get}
 use Rattle.std.proofs.lemmas.Bool.{cases_lt}
+use Rattle.std.proofs.lemmas.Grind.{elements}
 use Rattle.av_base.proofs.Lists.{some_is}
 use Rattle.av_space.proofs.Elements.{in_range}
 use Rattle.av_build.specs.declared.blueprint.CellPlan.{CellPlan}
@@ -90,3 +91,12 @@ loop-number-preserved c = λ q lane le lt is_lane.
           let same : own ≡ lane = some_is own lane (sym is ∙ ap (λ (k : ℕ). slice_get b.lanes k) (sym e) ∙ is_lane) in
           ap (λ (x : LanePlan). is_of_helper x c.args.helper) (sym same) ∙ sym c.if-is_helper.ensures)
     ]
+
+pub bounds-as_slice-cell-2 : goal.bounds-as_slice-cell-2
+bounds-as_slice-cell-2 c = grind (arith, elements)
+
+pub bounds-as_slice-cell : goal.bounds-as_slice-cell
+bounds-as_slice-cell c = grind (arith, elements)
+
+pub offset_bounds-as_slice-cell : goal.offset_bounds-as_slice-cell
+offset_bounds-as_slice-cell c = grind (arith, elements)

@@ -1,5 +1,6 @@
 use Rattle.std.proofs.Common.{◌+◌, ℕ, refl, sym, subst, arith, get_or}
 use Rattle.std.proofs.lemmas.Option.{slice_get-get_or}
+use Rattle.std.proofs.lemmas.Grind.{common_steps, elements}
 use Rattle.av_flat.specs.Trees.{view}
 use Rattle.av_kinds.specs.Counters.{count_in}
 use Rattle.av_history.specs.Performing.{IsPlaceSource}
@@ -35,3 +36,15 @@ returns c =
     let test = c.loop-k-test.false in
     let end = c.loop-k.auto.k-index-end in
     subst (λ (n : ℕ). AreMomentsTo (count_in c.args.counter) spot.slots c.args.order.now Always (λ z d source. IsPlaceSource (seen b.array) (lanes_of b.cells) (spot_of spot) z d site.place.site (view site.place.tree) source) n c.loop-k.moments) (omega (arith, test, end)) c.loop-k.invariant
+
+pub own_source-requires-clause-slot : goal.own_source-requires-clause-slot
+own_source-requires-clause-slot c = grind (arith, elements)
+
+pub loop-k-init : goal.loop-k-init
+loop-k-init c = grind (arith, common_steps)
+
+pub bounds-slots-k : goal.bounds-slots-k
+bounds-slots-k c = grind (arith, elements)
+
+pub offset_bounds-slots-k : goal.offset_bounds-slots-k
+offset_bounds-slots-k c = grind (arith, elements)

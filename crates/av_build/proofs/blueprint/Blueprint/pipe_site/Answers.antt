@@ -1,4 +1,5 @@
 use Rattle.std.proofs.Common.{◌∙◌, ◌-◌, ℕ, refl, sym, ap, ap₂, arith}
+use Rattle.std.proofs.lemmas.Grind.{elements}
 use Rattle.av_base.proofs.Lists.{some_is}
 use Rattle.av_space.proofs.Elements.{in_range}
 use Rattle.av_kinds.specs.declared.program.Inlet.TheVariants.{Pipe}
@@ -35,3 +36,12 @@ returns c =
       selections = c.new.ensures;
       otherwise = ap (λ (q : ℕ). Line q 0) c.helper_lane-lane.ensures;
     }
+
+pub bounds-as_slice-spot-2 : goal.bounds-as_slice-spot-2
+bounds-as_slice-spot-2 c = grind (arith, elements)
+
+pub bounds-as_slice-spot : goal.bounds-as_slice-spot
+bounds-as_slice-spot c = grind (arith, elements)
+
+pub offset_bounds-as_slice-spot : goal.offset_bounds-as_slice-spot
+offset_bounds-as_slice-spot c = grind (arith, elements)

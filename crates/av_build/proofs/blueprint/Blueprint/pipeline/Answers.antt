@@ -1,4 +1,5 @@
 use Rattle.std.proofs.Common.{◌+◌, map, refl, arith, rules}
+use Rattle.std.proofs.lemmas.Grind.{elements}
 use Rattle.av_kinds.specs.Written.{mode_of, lane_of}
 use Rattle.av_build.specs.inner.SpotPlans.{spot_by}
 use Rattle.av_build.proofs.HelperPlaces.{spot_at}
@@ -58,3 +59,9 @@ returns c =
     c.as_slice-2.result.now c.as_slice-2.ensures c.index-as_slice-helper.result c.index-as_slice-helper.is at c.in_ok-spot.ensures in
     lane_built c.args.self.now c.requires.blueprint p h c.requires.helper c.args.counter at is_at (map mode_of c.in_ok-pipeline_modes.field-0) c.in_ok-pipeline_modes.ensures
     (lane_of (record { home = p; rank = h.number + 1; width = at.var.now.width; modes = c.in_ok-pipeline_modes.field-0; length = c.line_length.result })) refl (omega arith) refl refl c.line_length.ensures
+
+pub bounds-as_slice-cell : goal.bounds-as_slice-cell
+bounds-as_slice-cell c = grind (arith, elements)
+
+pub offset_bounds-as_slice-cell : goal.offset_bounds-as_slice-cell
+offset_bounds-as_slice-cell c = grind (arith, elements)

@@ -1,5 +1,6 @@
-use Rattle.std.proofs.Common.{◌<◌, map, refl, sym, ap, subst}
+use Rattle.std.proofs.Common.{◌<◌, map, refl, sym, ap, subst, arith}
 use Rattle.std.specs.Prelude.{AllPairs}
+use Rattle.std.proofs.lemmas.Grind.{common_steps, elements}
 use Rattle.av_flat.specs.declared.flat.Flat.{Flat}
 use Rattle.av_flat.specs.Trees.{Tree, view, view_system}
 use Rattle.av_space.specs.declared.layout.Slot.{Slot}
@@ -67,3 +68,30 @@ returns c =
     let here = subst (λ (t : Tree). ArePipelineModes (system_of b.array) at.var.now.width t c.in_ok-found.found (map mode_of modes)) tree
     (subst (λ (f : Flat). ArePipelineModes (view_system f) at.var.now.width (view c.read.inside.tree.now) c.in_ok-found.found (map mode_of modes)) c.requires.flat are) in
     modes_there b c.requires.blueprint at h on c.args.counter c.requires.counter c.as_slice-5.result.now order c.in_ok-found.found c.in_ok-found.ensures at.var.now.width refl (map mode_of modes) here) c.helper_modes.result c.helper_modes.ensures
+
+pub pipeline_moments-requires-clause-order : goal.pipeline_moments-requires-clause-order
+pipeline_moments-requires-clause-order c = grind (arith, common_steps)
+
+pub offset_bounds-as_slice-helper : goal.offset_bounds-as_slice-helper
+offset_bounds-as_slice-helper c = grind (arith, elements)
+
+pub bounds-as_slice-helper-2 : goal.bounds-as_slice-helper-2
+bounds-as_slice-helper-2 c = grind (arith, elements)
+
+pub unreachable-requires : goal.unreachable-requires
+unreachable-requires c = grind (arith, elements)
+
+pub bounds-as_slice-helper : goal.bounds-as_slice-helper
+bounds-as_slice-helper c = grind (arith, elements)
+
+pub pipeline_moments-requires-clause-spot : goal.pipeline_moments-requires-clause-spot
+pipeline_moments-requires-clause-spot c = grind (arith, elements)
+
+pub offset_bounds-as_slice-helper-2 : goal.offset_bounds-as_slice-helper-2
+offset_bounds-as_slice-helper-2 c = grind (arith, elements)
+
+pub bounds-as_slice-spot : goal.bounds-as_slice-spot
+bounds-as_slice-spot c = grind (arith, elements)
+
+pub offset_bounds-as_slice-spot : goal.offset_bounds-as_slice-spot
+offset_bounds-as_slice-spot c = grind (arith, elements)

@@ -1,5 +1,6 @@
 use Rattle.std.proofs.Common.{ℕ, subst, arith, get_or}
 use Rattle.std.proofs.lemmas.Option.{slice_get-get_or}
+use Rattle.std.proofs.lemmas.Grind.{elements}
 use Rattle.av_flat.specs.Trees.{view}
 use Rattle.av_space.specs.Spots.{IsSlotIn}
 use Rattle.av_space.proofs.Elements.{at_index}
@@ -51,3 +52,9 @@ returns c =
     let test = c.loop-k-test.false in
     let end = c.loop-k.auto.k-index-end in
     subst (λ (n : ℕ). ArePipelineMomentsTo (seen b.array) (count_in c.args.counter) (lanes_of b.cells) (spot_of spot) site.place.site c.args.pipeline.now (view site.place.tree) spot.slots c.args.order.now n c.loop-k.moments) (omega (arith, test, end)) c.loop-k.invariant
+
+pub bounds-slots-k : goal.bounds-slots-k
+bounds-slots-k c = grind (arith, elements)
+
+pub offset_bounds-slots-k : goal.offset_bounds-slots-k
+offset_bounds-slots-k c = grind (arith, elements)

@@ -1,5 +1,6 @@
-use Rattle.std.proofs.Common.{◌≡◌, ◌∙◌, List, refl, sym, ap, subst, IsTrue, Some}
+use Rattle.std.proofs.Common.{◌≡◌, ◌∙◌, List, refl, sym, ap, subst, IsTrue, Some, arith}
 use Rattle.std.specs.Prelude.{slice_get}
+use Rattle.std.proofs.lemmas.Grind.{elements}
 use Rattle.av_base.proofs.Lists.{some_is}
 use Rattle.av_flat.specs.Points.{has}
 use Rattle.av_space.specs.declared.spots.Site.{Site}
@@ -102,3 +103,24 @@ returns c = λ other spot is_other is_spot.
     let active =
     subst (λ (l : List Window). IsModeFor (seen b.array) count p (λ m z. m ≡ at.node) (λ m z. IsTrue (has at.piece.now.domain z)) (record { windows = l; work = work })) (sym windows) mode in
     subst (λ (x : Spot). IsValueWork b c.args.counter x work × IsModeFor (seen b.array) count p (λ m z. m ≡ x.node) (λ m z. IsTrue (has x.piece.now.domain z)) (record { windows = c.in_ok-windows.field-0; work = work })) one (c.in_ok-work.ensures, active)
+
+pub slots-all-requires-clause-cell : goal.slots-all-requires-clause-cell
+slots-all-requires-clause-cell c = grind (arith, elements)
+
+pub bounds-as_slice-number-2 : goal.bounds-as_slice-number-2
+bounds-as_slice-number-2 c = grind (arith, elements)
+
+pub offset_bounds-as_slice-number-2 : goal.offset_bounds-as_slice-number-2
+offset_bounds-as_slice-number-2 c = grind (arith, elements)
+
+pub bounds-as_slice-number : goal.bounds-as_slice-number
+bounds-as_slice-number c = grind (arith, elements)
+
+pub offset_bounds-as_slice-number : goal.offset_bounds-as_slice-number
+offset_bounds-as_slice-number c = grind (arith, elements)
+
+pub bounds-as_slice-cell : goal.bounds-as_slice-cell
+bounds-as_slice-cell c = grind (arith, elements)
+
+pub offset_bounds-as_slice-cell : goal.offset_bounds-as_slice-cell
+offset_bounds-as_slice-cell c = grind (arith, elements)

@@ -1,5 +1,6 @@
-use Rattle.std.proofs.Common.{◌<◌, refl, sym, subst}
+use Rattle.std.proofs.Common.{◌<◌, refl, sym, subst, arith}
 use Rattle.std.specs.Prelude.{AllPairs}
+use Rattle.std.proofs.lemmas.Grind.{common_steps}
 use Rattle.av_space.specs.declared.layout.Slot.{Slot}
 use Rattle.av_kinds.specs.Counters.{count_in, number_count}
 use Rattle.av_build.specs.inner.Blueprints.{lanes_of}
@@ -43,3 +44,6 @@ returns c = λ plan is_plan.
     let all = all_pairs (IsValueSite b c.args.counter at) c.args.places.now c.args.places.now c.loop-place.sites c.loop-place.place-index refl c.loop-place.invariant.one_each c.loop-place.auto.place-index-end c.loop-place-test.false c.loop-place.invariant.each in
     work_for b.array (count_in c.args.counter) (lanes_of b.cells) plan.lanes.first at (plain_piece b.array c.requires.blueprint.array at (spot_there b c.requires.blueprint at c.args.places.now c.requires.spot))
     c.args.places.now (sites_there b c.requires.blueprint at c.args.places.now c.requires.spot) c.loop-place.sites all.0 (λ k x y is_x is_y. all.1 k x y is_x is_y plan is_plan)
+
+pub loop-place-init : goal.loop-place-init
+loop-place-init c = grind (arith, common_steps)
