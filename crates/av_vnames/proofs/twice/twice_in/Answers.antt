@@ -1,6 +1,7 @@
-use Rattle.std.proofs.Common.{◌≡◌}
+use Rattle.std.proofs.Common.{◌≡◌, arith}
 use Rattle.std.specs.Prelude.{option_map}
 use Rattle.std.proofs.lemmas.Result.{IfOk-weaker}
+use Rattle.std.proofs.lemmas.Grind.{elements}
 use Rattle.av_net.specs.Rows.{first_again, mentions_of}
 use Rattle.av_vparse.specs.Said.{said_module}
 use Rattle.av_vnames.specs.inner.Seen.{Stands, Tells, standing, own_mentions}
@@ -21,3 +22,6 @@ returns-clause-again c =
     IfOk-weaker c.mentions.result (λ r. Tells Stands c.in_ok-seen.seen c.mentions.new.self (own_mentions kinds x) (option_map (λ name. name.now) r))
     (λ r. option_map (λ name. name.now) r ≡ first_again (standing c.args.modules.now) (mentions_of kinds x))
     (λ r tells. within_told c.args.modules.now c.put.new.names x.name c.in_ok-seen.seen c.mentions.new.self (own_mentions kinds x) (option_map (λ name. name.now) r) put c.in_ok-seen.ensures tells) c.mentions.ensures
+
+pub returns-clause-modules : goal.returns-clause-modules
+returns-clause-modules c = grind (arith, elements)

@@ -3,6 +3,7 @@ use Rattle.std.specs.Prelude.{is_some}
 use Rattle.std.specs.Map.{lookup}
 use Rattle.std.specs.Str.{bytes_eq}
 use Rattle.std.proofs.lemmas.List.{length-map, map_push}
+use Rattle.std.proofs.lemmas.Grind.{common_steps}
 use Rattle.av_net.specs.declared.plan.CellKind.{CellKind}
 use Rattle.av_net.specs.Rows.{kind_from}
 use Rattle.av_vparse.specs.declared.parsed.ModuleText.{ModuleText}
@@ -35,3 +36,9 @@ loop-text-preserved c =
       numbered = λ q. more_places numbers c.push_kind.new.numbers (map (λ k. k.name) before) kind.name (length before) c.loop-text.invariant.numbered count c.in_ok-push_kind.ensures.numbers q
           ∙ ap (λ names. place_among names q) (sym (map_push (λ (k : CellKind). k.name) before kind)) ∙ ap (λ kinds. number_of kinds q) (sym pushed);
     }
+
+pub invariant_of-result : goal.invariant_of-result
+invariant_of-result c = grind (arith, common_steps)
+
+pub returns : goal.returns
+returns c = grind (arith, common_steps)
