@@ -1,5 +1,6 @@
-use Rattle.std.proofs.Common.{pos, [], ◌∷◌}
+use Rattle.std.proofs.Common.{pos, [], ◌∷◌, arith}
 use Rattle.std.proofs.lemmas.List.Elements.{All-head, All-tail}
+use Rattle.std.proofs.lemmas.Grind.{common_steps}
 use Rattle.av_affine.specs.Forms.{IsWithinLimits}
 use Rattle.av_tree.specs.Rows as rows
 use Rattle.av_names.specs.Forms.{form_of_row}
@@ -34,3 +35,6 @@ row-requires-in-Equal-2-clause-fits c =
     let s = sizes_in c.args.sizes.now in
     All-head IsWithinLimits (form_of_row (rows.at_least s c.args.names.now k.right k.left (pos 0))) []
     (All-tail IsWithinLimits (form_of_row (rows.at_least s c.args.names.now k.left k.right (pos 0))) (form_of_row (rows.at_least s c.args.names.now k.right k.left (pos 0)) ∷ []) (rw c.in-Equal.is at c.requires.fits.1))
+
+pub returns-in_ok-push-in-Equal : goal.returns-in_ok-push-in-Equal
+returns-in_ok-push-in-Equal c = grind (arith, common_steps)

@@ -1,6 +1,7 @@
-use Rattle.std.proofs.Common.{◌∙◌, ap}
+use Rattle.std.proofs.Common.{◌∙◌, ap, arith}
 use Rattle.std.specs.Prelude.{bytes_eq, find}
 use Rattle.std.proofs.Math.Path.{fun_ext}
+use Rattle.std.proofs.lemmas.Grind.{common_steps}
 use Rattle.av_tree.specs.Trees.{view_equations, view_system}
 use Rattle.av_names.specs.Flattened.{equation_of}
 use Rattle.av_names.specs.inner.Sums.{sizes_in}
@@ -17,3 +18,6 @@ returns-clause-names c =
       equations = λ name. rw c.in_ok-tables.ensures.system (c.in_ok-equations.ensures name ∙ ap (λ es. equation_of (view_equations es) name) c.as_slice.ensures);
       rights = rw c.in_ok-tables.ensures.system (rights_fit s c.args.sizes.now c.args.width.bits c.requires.text c.requires.accepted (sizes_in tables.sizes) (fun_ext c.in_ok-tables.ensures.sizes));
     }
+
+pub returns-clause-system : goal.returns-clause-system
+returns-clause-system c = grind (arith, common_steps)

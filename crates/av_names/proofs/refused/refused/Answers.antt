@@ -1,4 +1,5 @@
-use Rattle.std.proofs.Common.{◌++◌, Some, sym, ◌∙◌}
+use Rattle.std.proofs.Common.{◌++◌, Some, sym, ◌∙◌, arith}
+use Rattle.std.proofs.lemmas.Grind.{common_steps}
 use Rattle.av_tree.specs.Trees.{view_system}
 use Rattle.av_names.specs.Refusals as rules
 use Rattle.av_names.proofs.Rules.{group_found, group_passed}
@@ -24,3 +25,9 @@ returns-in-Some-3 c =
     group_passed (rules.name_rules s sizes) (rules.equation_rules s ++ (rules.form_rules s ++ rules.limit_rules s sizes)) (Some c.in-Some-3.fault) (sym c.in_default.is ∙ c.in_ok-fault.ensures)
     (group_passed (rules.equation_rules s) (rules.form_rules s ++ rules.limit_rules s sizes) (Some c.in-Some-3.fault) (sym c.in_default-2.is ∙ c.in_ok-fault-2.ensures)
     (group_found (rules.form_rules s) (rules.limit_rules s sizes) c.in-Some-3.fault (sym c.in-Some-3.is ∙ c.in_ok-fault-3.ensures)))
+
+pub returns : goal.returns
+returns c = grind (arith, common_steps)
+
+pub above_limits-requires-clause-small : goal.above_limits-requires-clause-small
+above_limits-requires-clause-small c = grind (arith, common_steps)
