@@ -78,7 +78,6 @@ pub(crate) fn bound(
     ensures { IfOk result (IsBounded (system_of space.now) space.now.reach.size level linear.now) }
 {
     witness_arcs(
-        space.edges,
         space.nodes,
         level,
         linear,

@@ -52,7 +52,7 @@ fn best_of_all(
 {
     let plan = plan_of(alloc, flat, reach, nodes)?;
     let table = spans_of(alloc, flat, reach, nodes, plan.lists.as_slice())?;
-    let mut linear = first_parts(alloc, flat, reach)?;
+    let mut linear = first_parts(alloc, flat)?;
     let mut spans = blank_spans(alloc, nodes.len())?;
     let mut pool = Pool {
         witnesses: Vec::new(alloc),

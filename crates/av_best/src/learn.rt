@@ -67,7 +67,7 @@ pub(crate) fn learn(
         let edge = &edges[*k];
         let reader = edge.consumer as usize;
         let read = edge.producer as usize;
-        let witness = witness_of_edge(edges, edge, nodes, reader, read, linear);
+        let witness = witness_of_edge(edge, reader, read, linear);
         if !is_listed(pool, &witness) {
             pool.push(witness)?;
         }
