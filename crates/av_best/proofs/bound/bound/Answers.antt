@@ -1,11 +1,11 @@
-use Rattle.std.proofs.Common.{◌≤◌, pos, ℕ, ℤ, List, length, sym, subst, arith, rules, All}
+use Rattle.std.proofs.Common.{◌≡◌, ◌≤◌, pos, ℕ, ℤ, List, length, sym, subst, arith, rules, All}
 use Rattle.av_flat.specs.Trees.{view_system}
 use Rattle.av_flat.specs.Nodes.{nodes}
 use Rattle.av_sched.specs.declared.arc.Arc.{Arc}
-use Rattle.av_sched.specs.Arcs.{Solves, IsLeastSolution}
+use Rattle.av_sched.specs.Arcs.{IsArc, Solves, IsLeastSolution}
 use Rattle.av_sched.specs.Witnesses.{IsWitnessArc}
 use Rattle.av_sched.proofs.Inside.{vectors_of}
-use Rattle.av_sched.proofs.Witnesses.{usable_witnesses}
+use Rattle.av_sched.proofs.Witnesses.{usable_witnesses, witnesses_fit}
 use Rattle.av_best.specs.declared.span.PartSpan.{PartSpan}
 use Rattle.av_best.specs.inner.Spans.{IsLeastAbove}
 use Rattle.av_best.proofs.Every.{as_many}
@@ -18,6 +18,14 @@ pub witness_arcs-requires : goal.witness_arcs-requires
 witness_arcs-requires c =
     let s = view_system c.args.space.now.flat.now in
     usable_witnesses s c.args.space.now.edges.now c.args.space.now.nodes.now c.args.linear.now c.requires.space.chained c.requires.space.proper c.requires.space.edges (vectors_of s c.args.space.now.reach.size c.args.linear.now c.args.space.now.reach.most c.requires.linear) c.args.pool.now c.requires.pool
+
+pub raise_to_least-requires-clause-arcs : goal.raise_to_least-requires-clause-arcs
+raise_to_least-requires-clause-arcs c =
+    let s = view_system c.args.space.now.flat.now in
+    let arcs = c.witness_arcs.new.arcs.items in
+    let many : length c.set_starts.new.offsets.items ≡ c.args.level = c.in_ok-set_starts.ensures.one_each in
+    let fit = witnesses_fit s c.args.space.now.edges.now c.args.space.now.nodes.now c.args.level c.args.linear.now c.requires.space.chained c.requires.space.edges arcs (c.in_ok-witness_arcs.ensures c.args.space.now.edges.now c.requires.pool) in
+    subst (All (IsArc (length c.set_starts.new.offsets.items))) (sym c.deref.ensures.value) (subst (λ (n : ℕ). All (IsArc n) arcs) (sym many) fit)
 
 pub raise_to_least-requires-clause-low : goal.raise_to_least-requires-clause-low
 raise_to_least-requires-clause-low c =
