@@ -42,7 +42,6 @@ witness_of_edge-witness-requires c =
 pub loop-k-preserved : goal.loop-k-preserved
 loop-k-preserved c =
     let P = IsWitness c.args.edges.now c.args.nodes.now in
-    let s = view_system c.args._flat.now in
     let items = c.deref-k-items.result.now in
     let edge = c.index-edges-k.result in
     let l : c.loop-k.k-index < length items = search rules in
@@ -52,12 +51,9 @@ loop-k-preserved c =
     let within : get_or items c.loop-k.k-index 0 < length c.args.edges.now = omega (arith, own, same) in
     let usable = subst (IsUsable c.args.linear.now) (sym c.index-edges-k.is) (c.requires.usable (get_or items c.loop-k.k-index 0) edge within) in
     let m = c.requires.many in
-    let e = ap length c.requires.nodes ∙ as_many s in
     let reader : edge.consumer < length c.args.nodes.now = (let u = usable.consumer_within in omega (arith, u, m)) in
     let read : edge.producer < length c.args.nodes.now = (let u = usable.producer_within in omega (arith, u, m)) in
-    let there : (n : ℕ) → n < length c.args.nodes.now → slice_index_or c.args.nodes.now n 0 ≡ n =
-    λ n h. ap (λ (xs : List ℕ). slice_index_or xs n 0) c.requires.nodes ∙ node_there s n 0 (omega (arith, h, e)) in
-    let witness = c.witness_of_edge-witness.ensures c.args.edges.now c.args.nodes.now (get_or items c.loop-k.k-index 0, within, sym c.index-edges-k.is) reader read (there edge.consumer reader) (there edge.producer read) in
+    let witness = c.witness_of_edge-witness.ensures c.args.edges.now c.args.nodes.now (get_or items c.loop-k.k-index 0, within, sym c.index-edges-k.is) reader read (c.requires.nodes edge.consumer reader) (c.requires.nodes edge.producer read) in
     elim c.if-not-is_listed.branch [
       | then-not-is_listed+in_ok-push w ↦
           let e : c.if-not-is_listed.pool.items ≡ c.loop-k.pool.items ++ c.witness_of_edge-witness.result ∷ [] = ap (λ v. v.items) w.pool-is ∙ w.in_ok-push.ensures.items in
