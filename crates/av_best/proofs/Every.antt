@@ -19,6 +19,9 @@ as_many s = length-range_with_len 0 (length (nodes s))
 pub node_there : (s : FlatSystem) (k d : ℕ) → k < length (nodes s) → get_or (all_nodes s) k d ≡ k
 node_there s k d l = get_or-range_with_len 0 (length (nodes s)) k d l ∙ zero-add k
 
+pub nodes_there : (s : FlatSystem) (ns : List ℕ) → ns ≡ all_nodes s → (k : ℕ) → k < length ns → get_or ns k 0 ≡ k
+nodes_there s ns e k l = (let m = ap length e ∙ as_many s in ap (λ (xs : List ℕ). get_or xs k 0) e ∙ node_there s k 0 (omega (arith, l, m)))
+
 pub all_within : (s : FlatSystem) → All (λ n. n < length (nodes s)) (all_nodes s)
 all_within s = λ k d l.
     let m : k < length (nodes s) = (let e = as_many s in omega (arith, l, e)) in

@@ -77,14 +77,7 @@ pub(crate) fn bound(
     requires pool { All (IsWitness space.now.edges.now space.now.nodes.now) pool.now }
     ensures { IfOk result (IsBounded (system_of space.now) space.now.reach.size level linear.now) }
 {
-    witness_arcs(
-        space.edges,
-        space.nodes,
-        level,
-        linear,
-        pool,
-        &mut scratch.arcs,
-    )?;
+    witness_arcs(space.nodes, level, linear, pool, &mut scratch.arcs)?;
     set_starts(spans, level, &mut scratch.off)?;
     if !raise_to_least(&scratch.arcs, &mut scratch.off, &mut scratch.old)? {
         return Ok(None);

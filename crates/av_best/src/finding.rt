@@ -51,8 +51,8 @@ fn best_of_all(
     ensures { IfOk result (IsBest (view_system flat.now) reach.size) }
 {
     let plan = plan_of(alloc, flat, reach, nodes)?;
-    let table = spans_of(alloc, flat, reach, nodes, plan.lists.as_slice())?;
-    let mut linear = first_parts(alloc, flat, reach)?;
+    let table = spans_of(alloc, flat, nodes, plan.lists.as_slice())?;
+    let mut linear = first_parts(alloc, flat)?;
     let mut spans = blank_spans(alloc, nodes.len())?;
     let mut pool = Pool {
         witnesses: Vec::new(alloc),

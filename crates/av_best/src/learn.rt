@@ -1,15 +1,12 @@
 //! What a choice teaches: of the edges between two nodes, the witness that asks for most.
 
-ghost use Rattle.std.specs.Prelude.{◌≡◌, ◌<◌, length, All, Contains, IfOk, IfSome};
+ghost use Rattle.std.specs.Prelude.{ℕ, ◌≡◌, ◌<◌, length, All, Contains, IfOk, IfSome, slice_index_or};
 ghost use Rattle.std.specs.List.{AllZip};
-ghost use Rattle.av_flat.specs.Trees.{view_system};
 ghost use Rattle.av_sched.specs.Leads.{IsUsable, IsArcOf};
 ghost use Rattle.av_sched.specs.Witnesses.{IsWitness};
-ghost use Rattle.av_best.specs.Least.{all_nodes};
 
 use av_base::{Memory, Point};
 use av_depend::Edge;
-use av_flat::Flat;
 use av_sched::{Arc, Witness, is_listed, witness_of_edge};
 use std::alloc::Global;
 
@@ -48,14 +45,13 @@ fn pressing(alloc: Global, arcs: &[Arc]) -> Result<Vec<usize>, Memory>
 /// Adds the witnesses at which these linear parts are pressed most.
 pub(crate) fn learn(
     alloc: Global,
-    _flat: &Flat,
     edges: &[Edge],
     nodes: &[u32],
     linear: &[Point],
     arcs: &[Arc],
     pool: &mut Vec<Witness>,
 ) -> Result<(), Memory>
-    requires nodes { nodes.now ≡ all_nodes (view_system _flat.now) }
+    requires nodes { (k : ℕ) → k < length nodes.now → slice_index_or nodes.now k 0 ≡ k }
     requires usable { All (IsUsable linear.now) edges.now }
     requires many { length linear.now ≡ length nodes.now }
     requires arcs { AllZip (IsArcOf linear.now) edges.now arcs.now }
@@ -67,7 +63,7 @@ pub(crate) fn learn(
         let edge = &edges[*k];
         let reader = edge.consumer as usize;
         let read = edge.producer as usize;
-        let witness = witness_of_edge(edges, edge, nodes, reader, read, linear);
+        let witness = witness_of_edge(edge, reader, read, linear);
         if !is_listed(pool, &witness) {
             pool.push(witness)?;
         }

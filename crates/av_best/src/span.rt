@@ -1,8 +1,8 @@
 //! How far the values of linear parts reach over the points of nodes.
 
-ghost use Rattle.std.specs.Prelude.{◌≡◌, ◌≤◌, ◌<◌, length, map, All, IfOk};
+ghost use Rattle.std.specs.Prelude.{ℕ, ◌≡◌, ◌≤◌, ◌<◌, length, map, All, IfOk};
 ghost use Rattle.av_affine.specs.Numbers.{AtMost};
-ghost use Rattle.av_flat.specs.Trees.{view_system};
+ghost use Rattle.av_flat.specs.Trees.{FlatSystem, view_system};
 ghost use Rattle.av_flat.specs.Nodes.{nodes};
 ghost use Rattle.av_flat.specs.Chained.{IsChained};
 ghost use Rattle.av_flat.specs.Proper.{IsProper};
@@ -14,7 +14,7 @@ ghost use Rattle.av_best.specs.inner.Spans.{IsSpanOver, ArePointsOf, AreSpansAt,
 use av_base::{List, Memory, Point};
 use av_depend::generating_points;
 use av_elim::box_of;
-use av_flat::{Flat, Reach, place_of};
+use av_flat::{Flat, place_of};
 use av_sched::products;
 use std::alloc::Global;
 
@@ -58,17 +58,12 @@ pub(crate) fn points_of(alloc: Global, flat: &Flat, node: usize) -> Result<List<
 }
 
 // The span of each part over the points of a node.
-fn spans_at(
-    alloc: Global,
-    _flat: &Flat,
-    _node: usize,
-    points: &[Point],
-    parts: &[Point],
-) -> Result<List<PartSpan>, Memory>
-    requires points { ArePointsOf (view_system _flat.now) _node points.now }
+fn spans_at(alloc: Global, points: &[Point], parts: &[Point]) -> Result<List<PartSpan>, Memory>
+    requires some { 0 < length points.now }
     requires parts { All (λ a. IsSmallPart (length a) a) parts.now }
     requires fits { All (λ a. All (IsSmallPoint (length a)) points.now) parts.now }
-    ensures { IfOk result (AreSpansAt (view_system _flat.now) _node parts.now) }
+    ensures { IfOk result (λ spans. (s : FlatSystem) (node : ℕ)
+        → ArePointsOf s node points.now → AreSpansAt s node parts.now spans) }
 {
     let mut spans = List::new(alloc);
     for part in parts {
@@ -81,20 +76,20 @@ fn spans_at(
 pub(crate) fn spans_of(
     alloc: Global,
     flat: &Flat,
-    _reach: Reach,
     nodes: &[u32],
     lists: &[List<Point>],
 ) -> Result<List<List<PartSpan>>, Memory>
     requires chained { IsChained (view_system flat.now) }
     requires proper { IsProper (view_system flat.now) }
     requires nodes { nodes.now ≡ all_nodes (view_system flat.now) }
-    requires lists { AreAllParts (view_system flat.now) _reach.size nodes.now lists.now }
+    requires lists { (box : ℕ) × (box ≤ 4)
+        × AreAllParts (view_system flat.now) box nodes.now lists.now }
     ensures { IfOk result (AreSpansTo (view_system flat.now) (length nodes.now) lists.now) }
 {
     let mut spans = List::new(alloc);
     for k in 0..lists.len() {
         let points = points_of(alloc, flat, k)?;
-        spans.push(spans_at(alloc, flat, k, points.as_slice(), lists[k].as_slice())?)?;
+        spans.push(spans_at(alloc, points.as_slice(), lists[k].as_slice())?)?;
     }
     Ok(spans)
 }

@@ -139,7 +139,6 @@ fn leaf(
     if !raise_to_least(&arcs, &mut offsets, &mut pool.scratch.old)? {
         learn(
             alloc,
-            space.flat,
             space.edges,
             space.nodes,
             linear,
@@ -152,7 +151,6 @@ fn leaf(
     if !is_better(alloc, space, linear, spent, cycles, &best)? {
         learn(
             alloc,
-            space.flat,
             space.edges,
             space.nodes,
             linear,

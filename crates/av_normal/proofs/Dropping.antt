@@ -1,2 +1,1 @@
 -- The next item of a list that is gone through.
-use Rattle.std.proofs.Common.{[]}

@@ -1,5 +1,5 @@
 -- The set of each reduction of a kept piece lies over that of what holds it.
-use Rattle.std.proofs.Common.{◌≡◌, ℕ, List, ◌++◌, length, sym, subst, ◌∙◌}
+use Rattle.std.proofs.Common.{ℕ, List, ◌++◌, length, sym, subst, ◌∙◌}
 use Rattle.av_affine.specs.declared.form.Form.{Form}
 use Rattle.av_affine.specs.declared.map.Map.{Map}
 use Rattle.av_poly.specs.Points.{Set}

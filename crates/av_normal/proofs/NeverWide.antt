@@ -1,10 +1,10 @@
 -- Where none of a list is above a limit, there is no first one that is.
-use Rattle.std.proofs.Common.{◌≡◌, ◌≢◌, ℕ, List, [], ◌∷◌, refl, subst, inl, inr}
+use Rattle.std.proofs.Common.{◌≢◌, ℕ, List, [], ◌∷◌, refl, inl, inr}
 use Rattle.av_flat.specs.declared.quantity.Quantity.{Quantity}
 use Rattle.av_flat.specs.Quantities.{Measured}
 use Rattle.av_normal.specs.declared.fault.NormalFault.{NormalFault}
 use Rattle.av_normal.specs.declared.fault.NormalFault.TheVariants as fault
-use Rattle.av_normal.specs.Searches.{AreNarrow, IsFirstWide, IsWide, IsWideOne}
+use Rattle.av_normal.specs.Searches.{AreNarrow, IsFirstWide, IsWide}
 
 never_first_wide : (os : List Measured) (kind : Quantity) (n : ℕ) → AreNarrow os → IsFirstWide os kind n → ⊥
 never_first_wide [] kind n a w = w

@@ -16,7 +16,7 @@ use Rattle.std.proofs.lemmas.List.Elements.{All-weaker, All-append, All-from_rec
 use Prim.Native.Nat.{◌∣◌}
 use Rattle.av_affine.specs.declared.form.Form.{Form}
 use Rattle.av_affine.specs.Numbers.{IsGcdOf}
-use Rattle.av_affine.proofs.Exact.{divided, divided_primitive}
+use Rattle.av_affine.proofs.Exact.{divided_primitive}
 use Rattle.av_poly.specs.Normal.{counted, IsConstant, IsNever, IsDivided, Tightens, HasDirection, IsMetBefore, AreTightest, AreNormalised, IsPrimitive, impossible}
 use Rattle.av_poly.proofs.Dividing.{not_constant, divided_once}
 use Rattle.av_normal.proofs.Meeting.{MeetsFirst, asymmetric, in_first, some_met, met_in_front, met_behind, met_either, met_too, first_of, met_of}

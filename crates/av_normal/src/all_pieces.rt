@@ -114,7 +114,7 @@ fn made_piece(
     ensures wide { IfErr result (IsWide (of_set (set_of domain.now.dim (held domain.now.rows
         (part_at (parts (signatures_of vars.now) [] (view tree.now)) number))) ∷ [])) }
 {
-    let outline = outline_at(alloc, vars, domain, tree, sketch, number)?;
+    let outline = outline_at(alloc, domain, sketch, number)?;
     let domain = narrowed(outline.domain)?;
     let tree = needed_tree(alloc, vars, &domain, outline.folds, tree, number)?;
     Ok(Piece { domain, tree })

@@ -32,23 +32,19 @@ pub(crate) struct Outline {
 /// The outline of the piece of a variable's right side with this number, by the sketch of the right side.
 pub(crate) fn outline_at(
     alloc: Global,
-    _vars: &[Var],
     domain: &Poly,
-    _tree: &Tree,
     sketch: &Tree,
     number: u128,
 ) -> Result<Outline, Memory>
     requires sketch { IsReadable [] [] (view sketch.now) }
-    requires same { sketches [] [] (view sketch.now)
-        ≡ sketches (signatures_of _vars.now) [] (view _tree.now) }
     requires domain { All IsWithinLimits domain.now.rows }
-    requires number { number < piece_count (view _tree.now) }
-    requires few { piece_count (view _tree.now) ≤ 256 }
+    requires number { number < piece_count (view sketch.now) }
+    requires few { piece_count (view sketch.now) ≤ 256 }
     ensures dim { IfOk result (λ o. o.domain.dim ≡ domain.now.dim) }
     ensures rows { IfOk result (λ o. o.domain.rows ≡ domain.now.rows
-        ++ (part_at (parts (signatures_of _vars.now) [] (view _tree.now)) number).rows) }
-    ensures folds { IfOk result (λ o. o.folds ≡ has_reduction
-        (part_at (parts (signatures_of _vars.now) [] (view _tree.now)) number).tree) }
+        ++ (part_at (parts [] [] (view sketch.now)) number).rows) }
+    ensures folds { IfOk result (λ o. o.folds
+        ≡ has_reduction (part_at (parts [] [] (view sketch.now)) number).tree) }
 {
     let mut rows = copy_rows(alloc, domain.rows.as_slice())?;
     let folds = rows_of_part(alloc, &[], &[], sketch, number, &mut rows)?;

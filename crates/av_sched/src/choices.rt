@@ -137,14 +137,7 @@ impl<'a> Choices<'a> {
         requires pool { All (IsWitness self.now.edges self.now.component) pool.now }
         ensures { IfOk result (λ b. IsTrue b → IsForbiddenChoice self.now level linear.now) }
     {
-        witness_arcs(
-            self.edges,
-            self.component,
-            level,
-            linear,
-            pool,
-            &mut scratch.arcs,
-        )?;
+        witness_arcs(self.component, level, linear, pool, &mut scratch.arcs)?;
         let settled = settles(&scratch.arcs, &mut scratch.off, &mut scratch.old, level)?;
         Ok(!settled)
     }

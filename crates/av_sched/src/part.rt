@@ -10,7 +10,7 @@ ghost use Rattle.av_sched.specs.Parts.{indices_of};
 
 use crate::node::dimensions;
 use av_base::{Memory, Point};
-use av_flat::{Flat, Reach};
+use av_flat::Flat;
 use std::alloc::Global;
 
 // The first unit vector.
@@ -32,9 +32,10 @@ fn unit(dim: u8) -> Point
 }
 
 /// A linear part for each node.
-pub fn first_parts(alloc: Global, flat: &Flat, _reach: Reach) -> Result<Vec<Point>, Memory>
+pub fn first_parts(alloc: Global, flat: &Flat) -> Result<Vec<Point>, Memory>
     requires { IsChained (view_system flat.now) }
-    ensures { IfOk result (λ parts. AreLinearParts (view_system flat.now) _reach.size parts.items) }
+    ensures { IfOk result (λ parts. (box : ℕ) → 1 ≤ box
+        → AreLinearParts (view_system flat.now) box parts.items) }
 {
     let dims = dimensions(alloc, flat)?;
     let mut parts = Vec::new(alloc);

@@ -1,6 +1,7 @@
 //! Witnesses: listed points of edges inside the component, by which most choices are seen not to be feasible.
 
-ghost use Rattle.std.specs.Prelude.{◌≡◌, ◌<◌, length, All, Contains, IfOk, IfSome, slice_index_or};
+ghost use Rattle.std.specs.Prelude.{ℕ, List as Items, ◌≡◌, ◌<◌, length, All, Contains, IfOk, IfSome, slice_index_or};
+ghost use Rattle.av_depend.specs.declared.edge.Edge.{Edge as EdgeSeen};
 ghost use Rattle.av_sched.specs.Leads.{IsUsable};
 ghost use Rattle.av_sched.specs.Witnesses.{IsWitness, IsUsableWitness, IsArcAt, IsWitnessArc};
 
@@ -38,17 +39,16 @@ fn arc_at(component: &[u32], linear: &[Point], witness: &Witness) -> Arc
 
 /// What the witnesses ask for whose nodes are all among the first.
 pub fn witness_arcs(
-    _edges: &[Edge],
     component: &[u32],
     level: usize,
     linear: &[Point],
     pool: &[Witness],
     arcs: &mut Vec<Arc>,
 ) -> Result<(), Memory>
-    requires usable { All (IsUsableWitness component.now linear.now) pool.now }
-    requires pool { All (IsWitness _edges.now component.now) pool.now }
-    ensures { IfOk result (λ done.
-        All (IsWitnessArc _edges.now component.now level linear.now) arcs.new.items) }
+    requires { All (IsUsableWitness component.now linear.now) pool.now }
+    ensures { IfOk result (λ done. (edges : Items EdgeSeen)
+        → All (IsWitness edges component.now) pool.now
+        → All (IsWitnessArc edges component.now level linear.now) arcs.new.items) }
 {
     arcs.clear();
     for witness in pool {
@@ -96,22 +96,14 @@ fn least_point(edge: &Edge, linear: &[Point]) -> usize
     number
 }
 
-/// A witness of the edge between these nodes of the component.
-pub fn witness_of_edge(
-    _edges: &[Edge],
-    edge: &Edge,
-    _component: &[u32],
-    reader: usize,
-    read: usize,
-    linear: &[Point],
-) -> Witness
-    requires usable { IsUsable linear.now edge.now }
-    requires among { Contains _edges.now edge.now }
-    requires reader_within { reader < length _component.now }
-    requires read_within { read < length _component.now }
-    requires reader { slice_index_or _component.now reader 0 ≡ edge.now.consumer }
-    requires read { slice_index_or _component.now read 0 ≡ edge.now.producer }
-    ensures { IsWitness _edges.now _component.now result }
+/// A witness of the edge between these nodes, by their places in a component that both stand in.
+pub fn witness_of_edge(edge: &Edge, reader: usize, read: usize, linear: &[Point]) -> Witness
+    requires { IsUsable linear.now edge.now }
+    ensures { (edges : Items EdgeSeen) (component : Items ℕ) → Contains edges edge.now
+        → reader < length component → read < length component
+        → slice_index_or component reader 0 ≡ edge.now.consumer
+        → slice_index_or component read 0 ≡ edge.now.producer
+        → IsWitness edges component result }
 {
     let k = least_point(edge, linear);
     let point = &edge.points.as_slice()[k];
@@ -178,7 +170,7 @@ pub(crate) fn learn(
         let Some(read) = place_in(component, edge.producer) else {
             continue;
         };
-        let witness = witness_of_edge(edges, edge, component, reader, read, linear);
+        let witness = witness_of_edge(edge, reader, read, linear);
         if !is_listed(pool, &witness) {
             pool.push(witness)?;
         }

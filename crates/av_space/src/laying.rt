@@ -173,25 +173,6 @@ fn cells_filled(
     Ok(Filled { cells, slots })
 }
 
-// The layout of a system with few cycles and cells.
-fn laid(_timed: &TimedNodes<'_>, placements: List<Placement>, filled: Filled, cycles: u32) -> Layout
-    requires placings { ArePlacings _timed.now.times placements }
-    requires cycles { IsCycles _timed.now cycles }
-    requires limit { cycles ≤ 4096 }
-    requires cells { AreCellsIn (view_system _timed.now.flat) placements 0
-        (length (nodes (view_system _timed.now.flat))) filled.cells }
-    requires slots { AreFilled (view_system _timed.now.flat) placements filled.cells filled.slots }
-    requires few { length filled.cells ≤ 2048 }
-    ensures { IsLayout _timed.now result }
-{
-    Layout {
-        placements,
-        cells: filled.cells,
-        slots: filled.slots,
-        cycles,
-    }
-}
-
 // The number of cycles, if it is within its limit.
 fn limited_cycles(alloc: Global, timed: &TimedNodes<'_>) -> Result<u32, SpaceFault>
     ensures cycles { IfOk result (IsCycles timed.now) }
@@ -226,28 +207,6 @@ fn limit_nodes(
     Ok(())
 }
 
-// Refuses a system with too many cells.
-fn limit_cells(
-    _timed: &TimedNodes<'_>,
-    _placements: &List<Placement>,
-    cells: &List<Cell>,
-    _cycles: u32,
-) -> Result<(), SpaceFault>
-    requires placings { ArePlacings _timed.now.times _placements.now }
-    requires cells { AreCellsIn (view_system _timed.now.flat) _placements.now 0
-        (length (nodes (view_system _timed.now.flat))) cells.now }
-    requires cycles { IsCycles _timed.now _cycles }
-    requires limit { _cycles ≤ 4096 }
-    ensures few { OnOk result (length cells.now ≤ 2048) }
-    ensures refused { IfErr result (IsSpaceFault _timed.now) }
-{
-    let count = cells.len() as u128;
-    if count > MOST_CELLS {
-        return Err(SpaceFault::Cells(count));
-    }
-    Ok(())
-}
-
 // The layout of a system, or the first of the cycles and the cells that are above their limit.
 fn layout_of(alloc: Global, timed: &TimedNodes<'_>) -> Result<Layout, SpaceFault>
     ensures whole { IfOk result (IsLayout timed.now) }
@@ -257,8 +216,16 @@ fn layout_of(alloc: Global, timed: &TimedNodes<'_>) -> Result<Layout, SpaceFault
     let placements = placements(alloc, timed)?;
     limit_nodes(alloc, timed, &placements, cycles)?;
     let filled = cells_filled(alloc, timed, &placements)?;
-    limit_cells(timed, &placements, &filled.cells, cycles)?;
-    Ok(laid(timed, placements, filled, cycles))
+    let count = filled.cells.len() as u128;
+    if count > MOST_CELLS {
+        return Err(SpaceFault::Cells(count));
+    }
+    Ok(Layout {
+        placements,
+        cells: filled.cells,
+        slots: filled.slots,
+        cycles,
+    })
 }
 
 /// The layout of a legal timed system, or the first of the cycles and the cells that are above their limit. The cells are counted once

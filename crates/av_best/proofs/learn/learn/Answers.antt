@@ -29,8 +29,8 @@ offset_bounds-edges-k c =
     let within : get_or items c.loop-k.k-index 0 < length c.args.edges.now = omega (arith, own, same) in
     omega arith
 
-pub witness_of_edge-witness-requires-clause-usable : goal.witness_of_edge-witness-requires-clause-usable
-witness_of_edge-witness-requires-clause-usable c =
+pub witness_of_edge-witness-requires : goal.witness_of_edge-witness-requires
+witness_of_edge-witness-requires c =
     let items = c.deref-k-items.result.now in
     let l : c.loop-k.k-index < length items = search rules in
     let each = subst (All (λ (j : ℕ). j < length c.args.arcs.now)) (sym c.deref-k-items.ensures.value) c.in_ok-chosen.ensures in
@@ -39,49 +39,25 @@ witness_of_edge-witness-requires-clause-usable c =
     let within : get_or items c.loop-k.k-index 0 < length c.args.edges.now = omega (arith, own, same) in
     subst (IsUsable c.args.linear.now) (sym c.index-edges-k.is) (c.requires.usable (get_or items c.loop-k.k-index 0) c.index-edges-k.result within)
 
-pub witness_of_edge-witness-requires-clause-among : goal.witness_of_edge-witness-requires-clause-among
-witness_of_edge-witness-requires-clause-among c =
+pub loop-k-preserved : goal.loop-k-preserved
+loop-k-preserved c =
+    let P = IsWitness c.args.edges.now c.args.nodes.now in
     let items = c.deref-k-items.result.now in
+    let edge = c.index-edges-k.result in
     let l : c.loop-k.k-index < length items = search rules in
     let each = subst (All (λ (j : ℕ). j < length c.args.arcs.now)) (sym c.deref-k-items.ensures.value) c.in_ok-chosen.ensures in
     let own = each c.loop-k.k-index 0 l in
     let same = arcs_length c.args.linear.now c.args.edges.now c.args.arcs.now c.requires.arcs in
     let within : get_or items c.loop-k.k-index 0 < length c.args.edges.now = omega (arith, own, same) in
-    (get_or items c.loop-k.k-index 0, within, sym c.index-edges-k.is)
-
-pub witness_of_edge-witness-requires-clause-reader_within : goal.witness_of_edge-witness-requires-clause-reader_within
-witness_of_edge-witness-requires-clause-reader_within c = let u = (witness_of_edge-witness-requires-clause-usable c).consumer_within in let m = c.requires.many in omega (arith, u, m)
-
-pub witness_of_edge-witness-requires-clause-read_within : goal.witness_of_edge-witness-requires-clause-read_within
-witness_of_edge-witness-requires-clause-read_within c = let u = (witness_of_edge-witness-requires-clause-usable c).producer_within in let m = c.requires.many in omega (arith, u, m)
-
-pub witness_of_edge-witness-requires-clause-reader : goal.witness_of_edge-witness-requires-clause-reader
-witness_of_edge-witness-requires-clause-reader c =
-    let s = view_system c.args._flat.now in
-    let n = c.index-edges-k.result.consumer in
-    let u = (witness_of_edge-witness-requires-clause-usable c).consumer_within in
+    let usable = subst (IsUsable c.args.linear.now) (sym c.index-edges-k.is) (c.requires.usable (get_or items c.loop-k.k-index 0) edge within) in
     let m = c.requires.many in
-    let e = ap length c.requires.nodes ∙ as_many s in
-    let l : n < length (nodes s) = omega (arith, u, m, e) in
-    ap (λ (xs : List ℕ). slice_index_or xs n 0) c.requires.nodes ∙ node_there s n 0 l
-
-pub witness_of_edge-witness-requires-clause-read : goal.witness_of_edge-witness-requires-clause-read
-witness_of_edge-witness-requires-clause-read c =
-    let s = view_system c.args._flat.now in
-    let n = c.index-edges-k.result.producer in
-    let u = (witness_of_edge-witness-requires-clause-usable c).producer_within in
-    let m = c.requires.many in
-    let e = ap length c.requires.nodes ∙ as_many s in
-    let l : n < length (nodes s) = omega (arith, u, m, e) in
-    ap (λ (xs : List ℕ). slice_index_or xs n 0) c.requires.nodes ∙ node_there s n 0 l
-
-pub loop-k-preserved : goal.loop-k-preserved
-loop-k-preserved c =
-    let P = IsWitness c.args.edges.now c.args.nodes.now in
+    let reader : edge.consumer < length c.args.nodes.now = (let u = usable.consumer_within in omega (arith, u, m)) in
+    let read : edge.producer < length c.args.nodes.now = (let u = usable.producer_within in omega (arith, u, m)) in
+    let witness = c.witness_of_edge-witness.ensures c.args.edges.now c.args.nodes.now (get_or items c.loop-k.k-index 0, within, sym c.index-edges-k.is) reader read (c.requires.nodes edge.consumer reader) (c.requires.nodes edge.producer read) in
     elim c.if-not-is_listed.branch [
       | then-not-is_listed+in_ok-push w ↦
           let e : c.if-not-is_listed.pool.items ≡ c.loop-k.pool.items ++ c.witness_of_edge-witness.result ∷ [] = ap (λ v. v.items) w.pool-is ∙ w.in_ok-push.ensures.items in
-          subst (All P) (sym e) (All-push P c.loop-k.pool.items c.witness_of_edge-witness.result c.loop-k.invariant c.witness_of_edge-witness.ensures)
+          subst (All P) (sym e) (All-push P c.loop-k.pool.items c.witness_of_edge-witness.result c.loop-k.invariant witness)
       | else-not-is_listed w ↦
           let e : c.if-not-is_listed.pool.items ≡ c.loop-k.pool.items = ap (λ v. v.items) w.pool-is in
           subst (All P) (sym e) c.loop-k.invariant

@@ -17,7 +17,7 @@ use Rattle.av_best.specs.Lengths.{HasLength}
 use Rattle.av_best.specs.Least.{all_nodes}
 use Rattle.av_best.specs.inner.Spans.{AreSpanned, AreLows, IsLeastAbove}
 use Rattle.av_best.specs.inner.Joint.{HasWalked, IsBound, IsChosen}
-use Rattle.av_best.proofs.Every.{as_many}
+use Rattle.av_best.proofs.Every.{as_many, nodes_there}
 use Rattle.av_best.proofs.Spanning.{small_spans}
 use Rattle.av_best.proofs.Lasting.{lows_small}
 use Rattle.av_best.proofs.Leaving.{leaf_kept, leaf_barred, leaf_taken, least_bound, starts_there, length_there}
@@ -75,6 +75,9 @@ learn-requires-clause-usable c =
     let s = view_system c.args.space.now.flat.now in
     usable s c.args.space.now.edges.now c.args.linear.now c.requires.space.chained c.requires.space.proper c.requires.space.edges (vectors_of s c.args.space.now.reach.size c.args.linear.now c.args.space.now.reach.most c.requires.linear)
 
+pub learn-requires-clause-nodes : goal.learn-requires-clause-nodes
+learn-requires-clause-nodes c = nodes_there (view_system c.args.space.now.flat.now) c.args.space.now.nodes.now c.requires.space.nodes
+
 pub learn-requires-clause-many : goal.learn-requires-clause-many
 learn-requires-clause-many c =
     c.requires.linear.one_each ∙ sym (as_many (view_system c.args.space.now.flat.now)) ∙ sym (ap length c.requires.space.nodes)
@@ -83,6 +86,9 @@ pub learn-requires-then-not-branch-3-clause-usable : goal.learn-requires-then-no
 learn-requires-then-not-branch-3-clause-usable c =
     let s = view_system c.args.space.now.flat.now in
     usable s c.args.space.now.edges.now c.args.linear.now c.requires.space.chained c.requires.space.proper c.requires.space.edges (vectors_of s c.args.space.now.reach.size c.args.linear.now c.args.space.now.reach.most c.requires.linear)
+
+pub learn-requires-then-not-branch-3-clause-nodes : goal.learn-requires-then-not-branch-3-clause-nodes
+learn-requires-then-not-branch-3-clause-nodes c = nodes_there (view_system c.args.space.now.flat.now) c.args.space.now.nodes.now c.requires.space.nodes
 
 pub learn-requires-then-not-branch-3-clause-many : goal.learn-requires-then-not-branch-3-clause-many
 learn-requires-then-not-branch-3-clause-many c =

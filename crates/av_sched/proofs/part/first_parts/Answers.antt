@@ -14,15 +14,15 @@ unit-requires c =
     size_fits s dims c.loop-k.k c.index.result.now c.requires (omega (arith, l, same)) c.in_ok-dims.ensures c.index.ensures
 
 pub loop-k-preserved : goal.loop-k-preserved
-loop-k-preserved c =
+loop-k-preserved c box least =
     let s = view_system c.args.flat.now in
     rw c.in_ok-push.ensures.items
-    (parts_to_more s c.args._reach.size c.loop-k.k c.loop-k.parts.items c.in_ok-dims.dims.items c.index.result.now c.unit.result c.in_ok-dims.ensures c.index.ensures (c.unit.ensures c.args._reach.size c.args._reach.least) c.loop-k.invariant)
+    (parts_to_more s box c.loop-k.k c.loop-k.parts.items c.in_ok-dims.dims.items c.index.result.now c.unit.result c.in_ok-dims.ensures c.index.ensures (c.unit.ensures box least) (c.loop-k.invariant box least))
 
 pub returns : goal.returns
-returns c =
+returns c box least =
     let s = view_system c.args.flat.now in
     let dims = c.in_ok-dims.dims.items in
     let over : length dims ≤ c.loop-k.k = search rules in
     let under : c.loop-k.k ≤ length dims = search rules in
-    parts_to_all s c.args._reach.size c.loop-k.k c.loop-k.parts.items dims c.in_ok-dims.ensures over under c.loop-k.invariant
+    parts_to_all s box c.loop-k.k c.loop-k.parts.items dims c.in_ok-dims.ensures over under (c.loop-k.invariant box least)

@@ -1,4 +1,4 @@
-use Rattle.std.proofs.Common.{◌<◌, ◌≡◌, ◌∙◌, ◌++◌, ◌∷◌, [], sym, ap, subst, length, arith, All}
+use Rattle.std.proofs.Common.{rules, ◌<◌, ◌≡◌, ◌∙◌, ◌++◌, ◌∷◌, [], sym, ap, subst, length, arith, All}
 use Rattle.std.proofs.lemmas.List.Elements.{All-push}
 use Rattle.std.proofs.lemmas.Grind.{common_steps}
 use Rattle.av_sched.specs.Witnesses.{IsWitness}
@@ -19,7 +19,7 @@ loop-k-preserved c =
     elim c.if-not-is_listed.branch [
       | then-not-is_listed+in_ok-push w ↦
           let e : c.if-not-is_listed.pool.items ≡ c.loop-k.pool.items ++ c.witness_of_edge-witness.result ∷ [] = ap (λ v. v.items) w.pool-is ∙ w.in_ok-push.ensures.items in
-          subst (All P) (sym e) (All-push P c.loop-k.pool.items c.witness_of_edge-witness.result c.loop-k.invariant c.witness_of_edge-witness.ensures)
+          subst (All P) (sym e) (All-push P c.loop-k.pool.items c.witness_of_edge-witness.result c.loop-k.invariant (c.witness_of_edge-witness.ensures c.args.edges.now c.args.component.now (search rules) (search rules) (search rules) (search rules) (search rules)))
       | else-not-is_listed w ↦
           let e : c.if-not-is_listed.pool.items ≡ c.loop-k.pool.items = ap (λ v. v.items) w.pool-is in
           subst (All P) (sym e) c.loop-k.invariant

@@ -30,7 +30,7 @@ returns-in-Some-clause-refused c = λ f is other.
 pub components_of-requires-clause-linear : goal.components_of-requires-clause-linear
 components_of-requires-clause-linear c =
     let s = view_system c.args.flat.now in
-    subst (AreVectors s 4) (sym c.deref.ensures.value) (vectors_of s c.args.reach.size c.in_ok-start.start.items c.args.reach.most c.in_ok-start.ensures)
+    subst (AreVectors s 4) (sym c.deref.ensures.value) (vectors_of s c.args.reach.size c.in_ok-start.start.items c.args.reach.most (c.in_ok-start.ensures c.args.reach.size c.args.reach.least))
 
 pub stuck_at-requires-clause-within : goal.stuck_at-requires-clause-within
 stuck_at-requires-clause-within c =
