@@ -61,5 +61,6 @@ pub mod Promised
 pub mod HelperLaneOf
 pub mod AlikeLanes
 pub mod SortedCells
+pub mod LatePlaces
 pub mod PortPlaces
 pub mod WholeProgram

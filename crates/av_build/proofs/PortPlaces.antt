@@ -1,8 +1,7 @@
 -- The place of a piece at which the words of an input port are read.
-use Rattle.std.proofs.Common.{◌≡◌, ℕ, ◌+◌, ◌<◌, List, length, map, refl, sym, ap, subst, ◌∙◌, arith, true, Some, None}
+use Rattle.std.proofs.Common.{◌≡◌, ℕ, ◌+◌, ◌<◌, List, length, drop, map, refl, sym, ap, subst, ◌∙◌, arith, true, Some, None}
 use Rattle.std.specs.Prelude.{Contains, nat_eq, slice_get}
 use Rattle.av_base.specs.declared.width.Width.{Width}
-use Rattle.av_base.proofs.Among.{among_at}
 use Rattle.av_base.proofs.Lists.{get_mapped, some_is, there_is, place_in}
 use Rattle.av_base.proofs.Pieces.{same_eq}
 use Rattle.av_affine.specs.declared.map.Map.{Map}
@@ -34,6 +33,7 @@ use Rattle.av_build.specs.inner.Lanes.{HasVariable, is_reference_at, HasReferenc
 use Rattle.av_build.specs.inner.SpotPlans.{spot_by}
 use Rattle.av_build.proofs.SpotNodes.{computed_piece}
 use Rattle.av_build.proofs.HelperPlaces.{told, spot_at}
+use Rattle.av_build.proofs.LatePlaces.{among_dropped, from_dropped, late}
 use Rattle.av_build.proofs.SpotsOn.{variable_there}
 
 -- a place that is the reference with a number
@@ -101,7 +101,7 @@ module _ (b : Blueprint) (is : IsBlueprint b) (port : InPort) (among : Contains 
           let f = is_port.4 in
           ap (λ (q : Piece). slice_get (references q.tree) port.site) (piece_is is_port.0 f.node is_port.1 f.variable f.piece f.computes f.is_variable f.is_piece) ∙ f.is_reference
 
-      port_sites : (sites : List Site) × (slice_get plan.pieces.sites k ≡ Some sites) × HasReference sites port.site
+      port_sites : (sites : List Site) × (slice_get plan.pieces.sites k ≡ Some sites) × HasReference (drop port.site sites) port.site
       port_sites =
           let many = pieces.one_each in
           let within = in_range (spots_on w plan.pieces) k made is_made in
@@ -114,7 +114,8 @@ module _ (b : Blueprint) (is : IsBlueprint b) (port : InPort) (among : Contains 
           let site = from_map (λ (s : Site). place_of s.place) own.0 place.0 wanted mapped in
           let test : is_reference_at port.site site.0.place.site (view site.0.place.tree) ≡ true =
           ap (λ (q : Place). is_reference_at port.site q.site q.tree) site.2 ∙ ap (λ (i : ℕ). nat_eq i port.site) e ∙ same_eq port.site in
-          (own.0, own.1, (site.0, (among_at own.0 place.0 site.0 site.1, test)))
+          let above = (late at.number 0 (view_piece at.piece.now).tree).each place.0 wanted place.1 in
+          (own.0, own.1, (site.0, (among_dropped own.0 port.site place.0 site.0 site.1 (omega (arith, above)), test)))
 
     -- there is a place of the port
     pub has_port_place : HasPortPlace plan.pieces port
@@ -128,7 +129,7 @@ module _ (b : Blueprint) (is : IsBlueprint b) (port : InPort) (among : Contains 
         let own = port_sites k.0 at.0 at.1 number in
         record {
           site = own.2.0;
-          is_place = record { number = k.0; at = at.0; is_spot = at.1; is_piece = number; sites = own.0; are_sites = own.1; is_reference = own.2.1 };
+          is_place = record { number = k.0; at = at.0; is_spot = at.1; is_piece = number; sites = own.0; are_sites = own.1; is_reference = (from_dropped own.0 port.site own.2.0 own.2.1.0, own.2.1.1) };
           each = λ k at is_at number. port_sites k at is_at number;
         }
 

@@ -74,7 +74,9 @@ fn reference_of<'a, 'b>(pieces: &'b Pieces<'a>, port: &InPort) -> &'b Site<'a>
     let spots = pieces.spots.as_slice();
     for k in 0..spots.len() {
         if spots[k].number == port.piece as usize {
-            return reference_at(pieces.sites.as_slice()[k].as_slice(), port.site as usize);
+            // As many references stand before it, so that it is sought from its number on.
+            let number = port.site as usize;
+            return reference_at(&pieces.sites.as_slice()[k].as_slice()[number..], number);
         }
     }
     unreachable!()

@@ -71,6 +71,20 @@ fn copy_times(alloc: Global, times: &[Time]) -> Result<List<Time>, Memory>
     Ok(to)
 }
 
+/// What `Pipe` gives, for those who own the system: it is moved and not copied.
+pub fn with_helpers(alloc: Global, from: Timed) -> Result<Timed, Memory>
+    requires legal { IsLegal from }
+    requires none { from.helpers ≡ [] }
+    ensures { IfOk result (λ to. IsPiped from to) }
+{
+    let helpers = all_helpers(alloc, &from.flat, from.times.as_slice())?;
+    Ok(Timed {
+        flat: from.flat,
+        times: from.times,
+        helpers,
+    })
+}
+
 /// The system with its times and a helper for each moved reference.
 pub(crate) fn piped(alloc: Global, from: &Timed) -> Result<Timed, Memory>
     requires legal { IsLegal from.now }

@@ -27,3 +27,4 @@ pub mod Pricing
 pub mod Ways
 pub mod Whole
 pub mod OneSchedule
+pub mod Answered

@@ -1,5 +1,5 @@
 -- The lanes of a blueprint as they are built.
-use Rattle.std.specs.Prelude.{◌≡◌, ◌↔◌, ◌<◌, ℕ, suc, [], Bool, true, false, nat_eq, IsTrue, Contains, Option, Some, None, List, slice_get, length}
+use Rattle.std.specs.Prelude.{◌≡◌, ◌↔◌, ◌<◌, ℕ, suc, [], Bool, true, false, nat_eq, IsTrue, Contains, Option, Some, None, List, slice_get, length, drop}
 use Rattle.av_tree.specs.Points.{Point}
 use Rattle.av_flat.specs.declared.timed.Helper.{Helper}
 use Rattle.av_flat.specs.Trees.{Tree, Piece, Variable, FlatSystem, view, view_variable, reference}
@@ -137,11 +137,11 @@ pub record IsPortPlace (pieces : Pieces) (port : InPort) (site : Site) : Type 0 
   pub are_sites : slice_get pieces.sites number ≡ Some sites
   pub is_reference : IsReferenceIn sites port.site site
 
--- it is there, and so are the places of each piece with its number
+-- it is there, and so are the places of each piece with its number; as many places stand before it
 pub record HasPortPlace (pieces : Pieces) (port : InPort) : Type 0 where
   pub site : Site
   pub is_place : IsPortPlace pieces port site
-  pub each : (k : ℕ) (at : SpotPlan) → slice_get pieces.spots k ≡ Some at → at.number ≡ port.piece → (sites : List Site) × (slice_get pieces.sites k ≡ Some sites) × HasReference sites port.site
+  pub each : (k : ℕ) (at : SpotPlan) → slice_get pieces.spots k ≡ Some at → at.number ≡ port.piece → (sites : List Site) × (slice_get pieces.sites k ≡ Some sites) × HasReference (drop port.site sites) port.site
 
 -- ---- kinds
 

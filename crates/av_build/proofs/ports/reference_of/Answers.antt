@@ -1,5 +1,5 @@
-use Rattle.std.proofs.Common.{◌≡◌, ◌∙◌, List, length, inl, inr, arith, sym, ap, subst}
-use Rattle.std.specs.Prelude.{slice_get}
+use Rattle.std.proofs.Common.{◌≡◌, ◌∙◌, List, length, drop, inl, inr, arith, sym, ap, subst}
+use Rattle.std.specs.Prelude.{Contains, slice_get}
 use Rattle.std.proofs.lemmas.Bool.{cases_lt}
 use Rattle.std.proofs.lemmas.Grind.{elements}
 use Rattle.av_base.proofs.Lists.{some_is}
@@ -7,6 +7,7 @@ use Rattle.av_space.specs.declared.spots.Site.{Site}
 use Rattle.av_space.proofs.Elements.{in_range}
 use Rattle.av_build.specs.declared.spots.SpotPlan.{SpotPlan}
 use Rattle.av_build.specs.inner.Lanes.{HasReference, IsReferenceIn}
+use Rattle.av_build.proofs.LatePlaces.{from_dropped, tail_is}
 use Rattle.av_build.proofs.Pairwise.{element, element_of}
 use Rattle.av_build.proofs.ports.reference_of.Goals as goal
 
@@ -22,7 +23,9 @@ reference_at-requires c =
     let y = c.index-as_slice-k.result in
     let is_y = element_of pieces.sites c.as_slice.result.now k y y c.as_slice.ensures (in_range pieces.sites k own.0 own.1) c.index-as_slice-k.is in
     let same : c.as_slice-then-spots-k.result.now ≡ own.0 = c.as_slice-then-spots-k.ensures ∙ some_is y own.0 (sym is_y ∙ own.1) in
-    subst (λ (l : List Site). HasReference l c.args.port.now.site) (sym same) own.2
+    let n = c.args.port.now.site in
+    let slice = c.as_slice-then-spots-k.result.now in
+    subst (λ (l : List Site). HasReference l n) (sym (tail_is slice n)) (subst (λ (l : List Site). HasReference (drop n l) n) (sym same) own.2)
 
 pub returns-then-spots-k : goal.returns-then-spots-k
 returns-then-spots-k c =
@@ -37,6 +40,8 @@ returns-then-spots-k c =
     let y = c.index-as_slice-k.result in
     let is_y = element_of pieces.sites c.as_slice.result.now k y y c.as_slice.ensures (in_range pieces.sites k own.0 own.1) c.index-as_slice-k.is in
     let same : c.as_slice-then-spots-k.result.now ≡ own.0 = c.as_slice-then-spots-k.ensures ∙ some_is y own.0 (sym is_y ∙ own.1) in
+    let n = c.args.port.now.site in
+    let slice = c.as_slice-then-spots-k.result.now in
     record {
       number = k;
       at = x;
@@ -44,7 +49,8 @@ returns-then-spots-k c =
       is_piece = number;
       sites = own.0;
       are_sites = own.1;
-      is_reference = subst (λ (l : List Site). IsReferenceIn l c.args.port.now.site c.reference_at.result.now) same c.reference_at.ensures;
+      is_reference = subst (λ (l : List Site). IsReferenceIn l c.args.port.now.site c.reference_at.result.now) same
+          (from_dropped slice n c.reference_at.result.now (subst (λ (l : List Site). Contains l c.reference_at.result.now) (tail_is slice n) c.reference_at.ensures.0), c.reference_at.ensures.1);
     }
 
 pub loop-k-preserved : goal.loop-k-preserved

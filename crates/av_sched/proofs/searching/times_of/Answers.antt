@@ -1,6 +1,6 @@
 use Rattle.std.proofs.Common.{arith}
 use Rattle.std.proofs.lemmas.Grind.{common_steps}
-use Rattle.av_sched.proofs.searching.timed_of.Goals as goal
+use Rattle.av_sched.proofs.searching.times_of.Goals as goal
 
 pub loop-k-preserved : goal.loop-k-preserved
 loop-k-preserved c = grind (arith, common_steps)
