@@ -14,11 +14,7 @@ use av_poly::Bounds;
 use std::alloc::Global;
 
 // The pieces that have a point, where none has one outside a box.
-fn pieces_within(
-    alloc: Global,
-    pieces: List<Piece>,
-    within: &Bounds,
-) -> Result<List<Piece>, Memory>
+fn pieces_within(alloc: Global, pieces: List<Piece>, within: &Bounds) -> Result<List<Piece>, Memory>
     requires low { AtMost 4095 within.now.low }
     requires high { AtMost 4095 within.now.high }
     requires inside { AllByRecursion (IsInside within.now) (map view_piece pieces) }
