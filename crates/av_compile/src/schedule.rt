@@ -9,13 +9,13 @@ ghost use Rattle.av_compile.specs.declared.refusal.Refusal.TheVariants as refusa
 
 use crate::Refusal;
 use crate::front::flattened;
-use av_base::Width;
+use av_base::{List, Width};
 use av_check::check_normal;
 use av_depend::edges;
 use av_flat::{Flat, Pass, Reach, Timed};
 use av_names::Size;
 use av_normal::Normal;
-use av_sched::search;
+use av_sched::first_times;
 use av_serial::Serial;
 use std::alloc::Global;
 
@@ -70,5 +70,10 @@ pub fn scheduled(
     let flat = flattened(alloc, bytes, sizes, width)?;
     let serial = chained(alloc, &flat)?;
     let edges = edges(alloc, &serial)?;
-    Ok(search(alloc, &serial, edges.as_slice(), reach)?)
+    let times = first_times(alloc, &serial, edges.as_slice(), reach)?;
+    Ok(Timed {
+        flat: serial,
+        times,
+        helpers: List::new(alloc),
+    })
 }
