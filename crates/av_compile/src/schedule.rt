@@ -16,7 +16,7 @@ use av_flat::{Flat, Pass, Reach, Timed};
 use av_names::Size;
 use av_normal::Normal;
 use av_sched::first_times;
-use av_serial::Serial;
+use av_serial::serial_form;
 use std::alloc::Global;
 
 // The flat system with its pieces kept and its reductions as chains. Faults of points come before those of reductions.
@@ -30,7 +30,7 @@ fn chained(alloc: Global, flat: &Flat) -> Result<Flat, Refusal>
 {
     let normal = Normal.run(alloc, flat)?;
     check_normal(alloc, flat, &normal)?;
-    let serial = Serial.run(alloc, &normal)?;
+    let serial = serial_form(alloc, normal)?;
     Ok(serial)
 }
 
