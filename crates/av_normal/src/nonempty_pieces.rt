@@ -1,6 +1,6 @@
 //! The variables with their kept pieces alone.
 
-ghost use Rattle.std.specs.Prelude.{◌≡◌, IfOk, map};
+ghost use Rattle.std.specs.Prelude.{◌≡◌, [], ◌∷◌, ◌++◌, IfOk, OnOk, cond, map};
 ghost use Rattle.std.specs.List.{AllByRecursion};
 ghost use Rattle.av_affine.specs.Numbers.{AtMost};
 ghost use Rattle.av_flat.specs.Trees.{view_piece, view_variable};
@@ -13,6 +13,13 @@ use av_flat::{Piece, Var};
 use av_poly::Bounds;
 use std::alloc::Global;
 
+// Appends a piece where it stays, and drops it else.
+fn push_where(stays: bool, kept: &mut List<Piece>, piece: Piece) -> Result<(), Memory>
+    ensures { OnOk result (kept.new ≡ cond stays (kept.old ++ piece ∷ []) kept.old) }
+{
+    if stays { kept.push(piece) } else { Ok(()) }
+}
+
 // The pieces that have a point, where none has one outside a box.
 fn pieces_within(alloc: Global, pieces: List<Piece>, within: &Bounds) -> Result<List<Piece>, Memory>
     requires low { AtMost 4095 within.now.low }
@@ -23,9 +30,8 @@ fn pieces_within(alloc: Global, pieces: List<Piece>, within: &Bounds) -> Result<
 {
     let mut kept = List::new(alloc);
     for piece in pieces.into_vec() {
-        if has_point(alloc, &piece.domain, within)? {
-            kept.push(piece)?;
-        }
+        let stays = has_point(alloc, &piece.domain, within)?;
+        push_where(stays, &mut kept, piece)?;
     }
     Ok(kept)
 }
