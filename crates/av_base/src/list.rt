@@ -50,6 +50,13 @@ impl<T> List<T> {
     {
         self.items.as_slice()
     }
+
+    /// A vector of the items, for those who take them out one by one.
+    pub fn into_vec(self) -> Vec<T>
+        ensures { result.items ≡ self }
+    {
+        self.items
+    }
 }
 
 impl<T: Drop> List<T> {

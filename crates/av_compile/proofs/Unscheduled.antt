@@ -1,7 +1,6 @@
 -- Which fault is the first where a text is not scheduled, and that a search that has found a schedule has none.
 use Rattle.std.proofs.Common.{◌≡◌, ◌≢◌, ℕ, ◌⊎◌, inl, inr, List, refl}
 use Rattle.std.specs.Prelude.{Result, Ok, Err}
-use Rattle.av_flat.specs.declared.timed.Timed.{Timed}
 use Rattle.av_flat.specs.Trees.{FlatSystem}
 use Rattle.av_names.specs.declared.size.Size.{Size}
 use Rattle.av_sched.specs.declared.fault.SchedFault.{SchedFault}
@@ -30,7 +29,7 @@ unchained bytes words width c r s flattens (chaining.in_reductions f e proper no
     scheduled.in_reductions f e normal (record { flat = s; flattens = flattens; proper = proper; given = given }) fault
 
 -- a search that answers every fault has none where it answers a schedule
-pub none_where_found : (s : FlatSystem) (c : ℕ) (t : Timed) (r : Result Timed SchedFault) → r ≡ Ok t
+pub none_where_found : {T : Type 0} (s : FlatSystem) (c : ℕ) (t : T) (r : Result T SchedFault) → r ≡ Ok t
     → ((f : SchedFault) → IsFault s c f → f ≢ sched.Memory → (r ≡ Err f) ⊎ (r ≡ Err sched.Memory)) → HasFirstSchedule s c
 none_where_found s c t r e refused f fault = go f fault
   where

@@ -10,9 +10,9 @@ ghost use Rattle.av_compile.specs.declared.refusal.Refusal.TheVariants as refusa
 use crate::Refusal;
 use crate::schedule::scheduled;
 use av_base::Width;
-use av_flat::{Pass, Reach, Timed};
+use av_flat::{Reach, Timed};
 use av_names::Size;
-use av_pipe::Pipe;
+use av_pipe::with_helpers;
 use av_space::{Cells, Layout, lay_out, map_layout};
 use std::alloc::Global;
 
@@ -51,7 +51,7 @@ pub(crate) fn mapped_with_layout(
         → HasArray t → IfErr result (λ f. f ≡ refusal.Memory) }
 {
     let found = scheduled(alloc, bytes, sizes, width, reach)?;
-    let timed = Pipe.run(alloc, &found)?;
+    let timed = with_helpers(alloc, found)?;
     let layout = lay_out(alloc, &timed)?;
     let cells = map_layout(alloc, &timed, &layout)?;
     Ok(LaidOut {

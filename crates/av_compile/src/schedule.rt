@@ -9,14 +9,14 @@ ghost use Rattle.av_compile.specs.declared.refusal.Refusal.TheVariants as refusa
 
 use crate::Refusal;
 use crate::front::flattened;
-use av_base::Width;
+use av_base::{List, Width};
 use av_check::check_normal;
 use av_depend::edges;
 use av_flat::{Flat, Pass, Reach, Timed};
 use av_names::Size;
 use av_normal::Normal;
-use av_sched::search;
-use av_serial::Serial;
+use av_sched::first_times;
+use av_serial::serial_form;
 use std::alloc::Global;
 
 // The flat system with its pieces kept and its reductions as chains. Faults of points come before those of reductions.
@@ -30,7 +30,7 @@ fn chained(alloc: Global, flat: &Flat) -> Result<Flat, Refusal>
 {
     let normal = Normal.run(alloc, flat)?;
     check_normal(alloc, flat, &normal)?;
-    let serial = Serial.run(alloc, &normal)?;
+    let serial = serial_form(alloc, normal)?;
     Ok(serial)
 }
 
@@ -70,5 +70,10 @@ pub fn scheduled(
     let flat = flattened(alloc, bytes, sizes, width)?;
     let serial = chained(alloc, &flat)?;
     let edges = edges(alloc, &serial)?;
-    Ok(search(alloc, &serial, edges.as_slice(), reach)?)
+    let times = first_times(alloc, &serial, edges.as_slice(), reach)?;
+    Ok(Timed {
+        flat: serial,
+        times,
+        helpers: List::new(alloc),
+    })
 }

@@ -1,5 +1,5 @@
 -- Pieces that are kept where they have a point are those of the normal form.
-use Rattle.std.proofs.Common.{◌≡◌, ◌↔◌, ℕ, ◌≤◌, ℤ, List, [], ◌∷◌, ◌++◌, map, Option, Some, None, refl, sym, ap, subst, ◌∙◌, arith, append_assoc}
+use Rattle.std.proofs.Common.{◌≡◌, ◌↔◌, ℕ, ◌≤◌, ℤ, List, [], ◌∷◌, ◌++◌, map, Bool, true, false, cond, Option, Some, None, refl, sym, ap, subst, ◌∙◌, arith, append_assoc}
 use Rattle.std.specs.List.{AllByRecursion}
 use Rattle.std.proofs.lemmas.List.{append-nil}
 use Rattle.av_poly.specs.declared.poly.Bounds.{Bounds}
@@ -12,6 +12,7 @@ use Rattle.av_flat.specs.Pieces.{Part, part, parts, filled, pieces_of}
 use Rattle.av_normal.specs.NormalForm.{set_of, AreKeptOf, ended, dropped, kept, IsNormalVariable, AreNormalVariables}
 use Rattle.av_normal.specs.inner.AllPieces.{IsPieceOfPart, ArePiecesOfParts, HasAllPieces, HaveAllPieces}
 use Rattle.av_normal.specs.Pairwise.{Pairwise}
+use Rattle.av_normal.specs.Extents.{SaysPoint}
 use Rattle.av_normal.specs.Domains.{IsDeclaredExtent, IsSmallExtent}
 use Rattle.av_normal.specs.inner.NonemptyPieces.{IsEmpty, AreNonemptyPieces, nothing, left_out, stays, HasNonemptyPieces, IsInside, IsHeld}
 use Rattle.av_normal.proofs.Boxes.{greatest_append, most_at}
@@ -35,6 +36,15 @@ nonempty_of_all all made f = subst (λ (rs : List Piece). AreNonemptyPieces all 
 pub seen_push : (pieces : List PieceMade) (p : PieceMade) → map view_piece (pieces ++ p ∷ []) ≡ map view_piece pieces ++ view_piece p ∷ []
 seen_push [] p = refl
 seen_push (q ∷ pieces) p = ap (λ rs. view_piece q ∷ rs) (seen_push pieces p)
+
+-- one piece more, that is kept where it has a point
+pub next_kept : (item : PieceMade) (all rest : List Piece) (kept new : List PieceMade) (stays : Bool) → ((rs : List Piece) → AreNonemptyPieces (view_piece item ∷ rest) rs → AreNonemptyPieces all (map view_piece kept ++ rs))
+    → SaysPoint item.domain stays → new ≡ cond stays (kept ++ item ∷ []) kept → (rs : List Piece) → AreNonemptyPieces rest rs → AreNonemptyPieces all (map view_piece new ++ rs)
+next_kept item all rest kept new true made says e =
+    subst (λ (now : List PieceMade). (rs : List Piece) → AreNonemptyPieces rest rs → AreNonemptyPieces all (map view_piece now ++ rs)) (sym e)
+    (subst (λ (now : List Piece). (rs : List Piece) → AreNonemptyPieces rest rs → AreNonemptyPieces all (now ++ rs)) (sym (seen_push kept item)) (one_stays (view_piece item) rest all (map view_piece kept) made says.0 says.1))
+next_kept item all rest kept new false made says e =
+    subst (λ (now : List PieceMade). (rs : List Piece) → AreNonemptyPieces rest rs → AreNonemptyPieces all (map view_piece now ++ rs)) (sym e) (one_left_out (view_piece item) rest all (map view_piece kept) made says)
 
 pub all_left_out : (qs : List Piece) → AllByRecursion IsEmpty qs → AreNonemptyPieces qs []
 all_left_out [] h = nothing

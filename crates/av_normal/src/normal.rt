@@ -23,7 +23,7 @@ fn normal_form(alloc: Global, flat: &Flat) -> Result<Flat, NormalFault>
     let all_pieces = all_pieces(alloc, flat)?;
     let extents = extents(alloc, flat.vars.as_slice())?;
     boxes_fit(extents.as_slice())?;
-    let vars = kept_variables(alloc, all_pieces.as_slice(), extents.as_slice())?;
+    let vars = kept_variables(alloc, all_pieces, extents.as_slice())?;
     Ok(Flat {
         width: flat.width,
         vars,

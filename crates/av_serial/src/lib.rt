@@ -19,4 +19,4 @@ pub use laws::{
     serial_forms_are_chained, serial_forms_are_given, serial_forms_are_proper,
     serial_forms_are_unique, serial_forms_keep_dependences, serial_forms_show_the_same,
 };
-pub use serial::Serial;
+pub use serial::{Serial, serial_form};

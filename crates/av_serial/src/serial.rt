@@ -9,25 +9,24 @@ use crate::SerialFault;
 use crate::walk::all_nodes;
 use crate::with_chains::with_chains;
 use av_base::limits::MOST_REDUCTIONS;
-use av_flat::{Feeds, Flat, Pass, Quantity};
+use av_flat::{Feeds, Flat, Pass, Quantity, copy_flat};
 use av_normal::Normal;
 use std::alloc::Global;
 
-// The system with its reductions as chains, or the first cause that holds against it.
-fn serial_form(alloc: Global, flat: &Flat) -> Result<Flat, SerialFault>
-    requires { IsKept (view_system flat.now) }
-    ensures given { IfOk result (λ to. IsGiven (view_system flat.now) (view_system to)) }
-    ensures fault { IfErr result (IsFault (view_system flat.now)) }
+/// The system with its reductions as chains, or the first cause that holds against it: what `Serial` gives, for those who own the
+/// system, of which nothing is kept twice.
+pub fn serial_form(alloc: Global, flat: Flat) -> Result<Flat, SerialFault>
+    requires { IsKept (view_system flat) }
+    ensures given { IfOk result (λ to. IsGiven (view_system flat) (view_system to)) }
+    ensures fault { IfErr result (IsFault (view_system flat)) }
 {
     let nodes = all_nodes(alloc, flat.vars.as_slice())?;
     if nodes > MOST_REDUCTIONS {
         return Err(SerialFault::Limit(Quantity::Reductions, nodes));
     }
-    let vars = with_chains(alloc, &flat.vars)?;
-    Ok(Flat {
-        width: flat.width,
-        vars,
-    })
+    let Flat { width, vars } = flat;
+    let vars = with_chains(alloc, vars)?;
+    Ok(Flat { width, vars })
 }
 
 /// Makes every reduction a chain: a partial variable that is folded from point to point along the index that the
@@ -64,7 +63,8 @@ impl Pass for Serial {
     ghost refuses = { λ from fault. IsFault (view_system from) fault };
 
     fn run(&self, alloc: Global, from: &Flat) -> Result<Flat, SerialFault> {
-        serial_form(alloc, from)
+        let own = copy_flat(alloc, from)?;
+        serial_form(alloc, own)
     }
 
     ghost same = { λ from to takes gives. gives.same };

@@ -33,6 +33,9 @@ pub record IsInside (b : Bounds) (q : Piece) : Type 0 where
   pub between : (z : List ℤ) → Has q.domain z → IsBetween b.low b.high z
 
 -- small bounds, outside of which no piece has a point; or no piece has a point
+abbrev pub AreHeld : List Piece → Option Bounds → Type 0
+AreHeld qs None = AllByRecursion IsEmpty qs
+AreHeld qs (Some b) = AtMost 4095 b.low × AtMost 4095 b.high × AllByRecursion (IsInside b) qs
+
 abbrev pub IsHeld : Variable → Option Bounds → Type 0
-IsHeld v None = AllByRecursion IsEmpty v.pieces
-IsHeld v (Some b) = AtMost 4095 b.low × AtMost 4095 b.high × AllByRecursion (IsInside b) v.pieces
+IsHeld v e = AreHeld v.pieces e

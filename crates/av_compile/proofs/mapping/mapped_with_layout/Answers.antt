@@ -21,7 +21,7 @@ returns-in_err-layout-clause-refused c = λ f is not_memory.
     let fault = c.in_err-layout.field-0.0 in
     let e : f ≡ of_space fault = told c.from_residual-in_err-layout.result (of_space fault) f c.from_residual-in_err-layout.ensures.1 is in
     in_array fault e c.in_ok-timed.timed
-    (pipelined c.args.bytes.now c.args.sizes.now c.args.width.bits c.args.reach.size c.in_ok-found.found c.in_ok-timed.timed c.in_ok-found.ensures.found c.in_ok-timed.ensures.gives)
+    (pipelined c.args.bytes.now c.args.sizes.now c.args.width.bits c.args.reach.size c.in_ok-found.found c.in_ok-timed.timed c.in_ok-found.ensures.found c.in_ok-timed.ensures)
     c.in_err-layout.ensures.refused
 
 pub returns-in_err-cells-clause-refused : goal.returns-in_err-cells-clause-refused
@@ -29,7 +29,7 @@ returns-in_err-cells-clause-refused c = λ f is not_memory.
     let fault = c.in_err-cells.field-0.0 in
     let e : f ≡ of_space fault = told c.from_residual-in_err-cells.result (of_space fault) f c.from_residual-in_err-cells.ensures.1 is in
     in_array fault e c.in_ok-timed.timed
-    (pipelined c.args.bytes.now c.args.sizes.now c.args.width.bits c.args.reach.size c.in_ok-found.found c.in_ok-timed.timed c.in_ok-found.ensures.found c.in_ok-timed.ensures.gives)
+    (pipelined c.args.bytes.now c.args.sizes.now c.args.width.bits c.args.reach.size c.in_ok-found.found c.in_ok-timed.timed c.in_ok-found.ensures.found c.in_ok-timed.ensures)
     c.in_err-cells.ensures.refused
 
 -- ---- none where there is none
@@ -41,14 +41,14 @@ returns-in_err-found-clause-complete c = λ t h has.
 pub returns-in_err-layout-clause-complete : goal.returns-in_err-layout-clause-complete
 returns-in_err-layout-clause-complete c = λ t h has.
     let fault = c.in_err-layout.field-0.0 in
-    let own = pipelined c.args.bytes.now c.args.sizes.now c.args.width.bits c.args.reach.size c.in_ok-found.found c.in_ok-timed.timed c.in_ok-found.ensures.found c.in_ok-timed.ensures.gives in
+    let own = pipelined c.args.bytes.now c.args.sizes.now c.args.width.bits c.args.reach.size c.in_ok-found.found c.in_ok-timed.timed c.in_ok-found.ensures.found c.in_ok-timed.ensures in
     memory_only c.from_residual-in_err-layout.result (of_space fault) c.from_residual-in_err-layout.ensures.1
     (ap of_space (array_of c.args.bytes.now c.args.sizes.now c.args.width.bits c.args.reach.size t c.in_ok-timed.timed h own has fault c.in_err-layout.ensures.refused))
 
 pub returns-in_err-cells-clause-complete : goal.returns-in_err-cells-clause-complete
 returns-in_err-cells-clause-complete c = λ t h has.
     let fault = c.in_err-cells.field-0.0 in
-    let own = pipelined c.args.bytes.now c.args.sizes.now c.args.width.bits c.args.reach.size c.in_ok-found.found c.in_ok-timed.timed c.in_ok-found.ensures.found c.in_ok-timed.ensures.gives in
+    let own = pipelined c.args.bytes.now c.args.sizes.now c.args.width.bits c.args.reach.size c.in_ok-found.found c.in_ok-timed.timed c.in_ok-found.ensures.found c.in_ok-timed.ensures in
     memory_only c.from_residual-in_err-cells.result (of_space fault) c.from_residual-in_err-cells.ensures.1
     (ap of_space (array_of c.args.bytes.now c.args.sizes.now c.args.width.bits c.args.reach.size t c.in_ok-timed.timed h own has fault c.in_err-cells.ensures.refused))
 
@@ -56,7 +56,7 @@ returns-in_err-cells-clause-complete c = λ t h has.
 
 pub returns-clause-found : goal.returns-clause-found
 returns-clause-found c = record {
-  pipelined = pipelined c.args.bytes.now c.args.sizes.now c.args.width.bits c.args.reach.size c.in_ok-found.found c.in_ok-timed.timed c.in_ok-found.ensures.found c.in_ok-timed.ensures.gives;
+  pipelined = pipelined c.args.bytes.now c.args.sizes.now c.args.width.bits c.args.reach.size c.in_ok-found.found c.in_ok-timed.timed c.in_ok-found.ensures.found c.in_ok-timed.ensures;
   whole = c.in_ok-cells.ensures.whole;
   no_cause = c.in_ok-cells.ensures.complete;
 }

@@ -11,7 +11,7 @@ returns-clause-found c = record {
   proper = c.in_ok-check_normal.ensures.proper;
   normal = view_system c.in_ok-normal.normal;
   given = c.in_ok-normal.ensures.gives;
-  serial = c.in_ok-serial.ensures.gives;
+  serial = c.in_ok-serial.ensures.given;
 }
 
 -- ---- the first fault
@@ -32,7 +32,7 @@ pub returns-in_err-serial-clause-refused : goal.returns-in_err-serial-clause-ref
 returns-in_err-serial-clause-refused c = λ f is not_memory.
     let fault = c.in_err-serial.field-0.0 in
     let e : f ≡ of_serial fault = told c.from_residual-in_err-serial.result (of_serial fault) f c.from_residual-in_err-serial.ensures.1 is in
-    in_reductions fault e c.in_ok-check_normal.ensures.proper (view_system c.in_ok-normal.normal) c.in_ok-normal.ensures.gives c.in_err-serial.ensures.refuses
+    in_reductions fault e c.in_ok-check_normal.ensures.proper (view_system c.in_ok-normal.normal) c.in_ok-normal.ensures.gives c.in_err-serial.ensures.fault
 
 -- ---- none where there is none
 
@@ -50,4 +50,4 @@ pub returns-in_err-serial-clause-complete : goal.returns-in_err-serial-clause-co
 returns-in_err-serial-clause-complete c = λ s h.
     let fault = c.in_err-serial.field-0.0 in
     memory_only c.from_residual-in_err-serial.result (of_serial fault) c.from_residual-in_err-serial.ensures.1
-    (ap of_serial (chained_only (view_system c.args.flat.now) s (view_system c.in_ok-normal.normal) h c.in_ok-normal.ensures.gives fault c.in_err-serial.ensures.refuses))
+    (ap of_serial (chained_only (view_system c.args.flat.now) s (view_system c.in_ok-normal.normal) h c.in_ok-normal.ensures.gives fault c.in_err-serial.ensures.fault))

@@ -1,9 +1,11 @@
-use Rattle.std.proofs.Common.{◌≡◌, ap, sym, subst}
+use Rattle.std.proofs.Common.{◌≡◌, List, ap, sym, subst}
 use Rattle.std.specs.Prelude.{Err}
 use Rattle.av_flat.specs.Trees.{FlatSystem, view_system}
-use Rattle.av_sched.specs.First.{IsFirstSchedule}
+use Rattle.av_flat.specs.Legal.{IsLegal}
+use Rattle.av_flat.specs.declared.timed.Helper.{Helper}
+use Rattle.av_flat.specs.declared.timed.Timed.{Timed}
 use Rattle.av_compile.specs.Refusals.{of_sched}
-use Rattle.av_compile.specs.Scheduled.{Serialises, HasFirstSchedule, IsUnscheduled, in_text, in_search}
+use Rattle.av_compile.specs.Scheduled.{HasFirstSchedule, IsUnscheduled, in_text, in_search}
 use Rattle.av_compile.proofs.FirstFaults.{told, memory_only}
 use Rattle.av_compile.proofs.OneChain.{chain_of, one_chained}
 use Rattle.av_compile.proofs.OnlySolution.{one_solution_each}
@@ -20,11 +22,11 @@ edges-requires-clause-chained c = c.in_ok-serial.ensures.found.serial.chained
 pub edges-requires-clause-proper : goal.edges-requires-clause-proper
 edges-requires-clause-proper c = let h = c.in_ok-serial.ensures.found in h.serial.proper (h.given.proper h.proper)
 
-pub search-requires-clause-chained : goal.search-requires-clause-chained
-search-requires-clause-chained c = c.in_ok-serial.ensures.found.serial.chained
+pub first_times-requires-clause-chained : goal.first_times-requires-clause-chained
+first_times-requires-clause-chained c = c.in_ok-serial.ensures.found.serial.chained
 
-pub search-requires-clause-proper : goal.search-requires-clause-proper
-search-requires-clause-proper c = let h = c.in_ok-serial.ensures.found in h.serial.proper (h.given.proper h.proper)
+pub first_times-requires-clause-proper : goal.first_times-requires-clause-proper
+first_times-requires-clause-proper c = let h = c.in_ok-serial.ensures.found in h.serial.proper (h.given.proper h.proper)
 
 -- ---- the first fault
 
@@ -42,13 +44,13 @@ returns-in_err-serial-clause-refused c = λ f is not_memory.
     let was : c.chained.result ≡ Err f = cc in
     unchained c.args.bytes.now c.args.sizes.now c.args.width.bits c.args.reach.size f (view_system c.in_ok-flat.flat) c.in_ok-flat.ensures.found (c.chained.ensures.refused f was not_memory)
 
-pub returns-in_err-search-clause-refused : goal.returns-in_err-search-clause-refused
-returns-in_err-search-clause-refused c = λ f is not_memory.
-    let fault = c.in_err-search.field-0.0 in
-    let e : f ≡ of_sched fault = told c.from_residual-in_err-search.result (of_sched fault) f c.from_residual-in_err-search.ensures.1 is in
+pub returns-in_err-times-clause-refused : goal.returns-in_err-times-clause-refused
+returns-in_err-times-clause-refused c = λ f is not_memory.
+    let fault = c.in_err-times.field-0.0 in
+    let e : f ≡ of_sched fault = told c.from_residual-in_err-times.result (of_sched fault) f c.from_residual-in_err-times.ensures.1 is in
     in_search fault e (view_system c.in_ok-serial.serial)
     (serialises c.args.bytes.now c.args.sizes.now c.args.width.bits (view_system c.in_ok-flat.flat) (view_system c.in_ok-serial.serial) c.in_ok-flat.ensures.found c.in_ok-serial.ensures.found)
-    c.in_err-search.ensures.fault
+    c.in_err-times.ensures.fault
 
 -- ---- none where there is none
 
@@ -61,33 +63,32 @@ returns-in_err-serial-clause-complete c = λ s h first.
     let chain = chain_of c.args.bytes.now c.args.sizes.now c.args.width.bits (view_system c.in_ok-flat.flat) s c.in_ok-flat.ensures.found h in
     memory_only c.from_residual-in_err-serial.result c.in_err-serial.field-0.0 c.from_residual-in_err-serial.ensures.1 (c.in_err-serial.ensures.complete s chain)
 
-pub returns-in_err-search-clause-complete : goal.returns-in_err-search-clause-complete
-returns-in_err-search-clause-complete c = λ s h first.
-    let fault = c.in_err-search.field-0.0 in
+pub returns-in_err-times-clause-complete : goal.returns-in_err-times-clause-complete
+returns-in_err-times-clause-complete c = λ s h first.
+    let fault = c.in_err-times.field-0.0 in
     let found = serialises c.args.bytes.now c.args.sizes.now c.args.width.bits (view_system c.in_ok-flat.flat) (view_system c.in_ok-serial.serial) c.in_ok-flat.ensures.found c.in_ok-serial.ensures.found in
     let same = one_chained c.args.bytes.now c.args.sizes.now c.args.width.bits s (view_system c.in_ok-serial.serial) h found in
-    memory_only c.from_residual-in_err-search.result (of_sched fault) c.from_residual-in_err-search.ensures.1
-    (ap of_sched (subst (λ (t : FlatSystem). HasFirstSchedule t c.args.reach.size) same first fault c.in_err-search.ensures.fault))
+    memory_only c.from_residual-in_err-times.result (of_sched fault) c.from_residual-in_err-times.ensures.1
+    (ap of_sched (subst (λ (t : FlatSystem). HasFirstSchedule t c.args.reach.size) same first fault c.in_err-times.ensures.fault))
 
 -- ---- what is found
 
 pub returns-clause-found : goal.returns-clause-found
 returns-clause-found c =
-    let t = c.in_ok-search.field-0 in
-    let s = view_system c.in_ok-serial.serial in
-    let same : view_system t.flat ≡ s = c.in_ok-search.ensures.same in
-    let found = serialises c.args.bytes.now c.args.sizes.now c.args.width.bits (view_system c.in_ok-flat.flat) s c.in_ok-flat.ensures.found c.in_ok-serial.ensures.found in
+    let flat = c.in_ok-serial.serial in
+    let times = c.in_ok-times.times in
     record {
-      serialises = subst (Serialises c.args.bytes.now c.args.sizes.now c.args.width.bits) (sym same) found;
-      first = subst (λ (u : FlatSystem). IsFirstSchedule u c.args.reach.size t.times) (sym same) c.in_ok-search.ensures.first;
-      no_cause = subst (λ (u : FlatSystem). HasFirstSchedule u c.args.reach.size) (sym same) (none_where_found s c.args.reach.size t c.search.result c.in_ok-search.was c.search.ensures.refused);
-      no_helper = c.in_ok-search.ensures.helpers;
-      legal = c.in_ok-search.ensures.legal;
+      serialises = serialises c.args.bytes.now c.args.sizes.now c.args.width.bits (view_system c.in_ok-flat.flat) (view_system flat) c.in_ok-flat.ensures.found c.in_ok-serial.ensures.found;
+      first = c.in_ok-times.ensures.first;
+      no_cause = none_where_found (view_system flat) c.args.reach.size times c.first_times.result c.in_ok-times.was c.first_times.ensures.refused;
+      no_helper = c.new.ensures;
+      legal = subst (λ (helpers : List Helper). IsLegal (record { flat = flat; times = times; helpers = helpers })) (sym c.new.ensures) c.in_ok-times.ensures.legal;
     }
 
 pub returns-clause-one_solution : goal.returns-clause-one_solution
 returns-clause-one_solution c =
-    one_solution_each c.args.bytes.now c.args.sizes.now c.args.width.bits c.args.reach.size c.in_ok-search.field-0 c.requires.short c.args.width.least (returns-clause-found c)
+    let timed : Timed = record { flat = c.in_ok-serial.serial; times = c.in_ok-times.times; helpers = c.new.result } in
+    one_solution_each c.args.bytes.now c.args.sizes.now c.args.width.bits c.args.reach.size timed c.requires.short c.args.width.least (returns-clause-found c)
 
 -- ---- each cause has its answer
 
@@ -102,11 +103,11 @@ returns-in_err-serial-clause-cause c =
 pub returns-in_err-edges-clause-cause : goal.returns-in_err-edges-clause-cause
 returns-in_err-edges-clause-cause c = answered_memory (IsUnscheduled c.args.bytes.now c.args.sizes.now c.args.width.bits c.args.reach.size) (one_unscheduled c.args.bytes.now c.args.sizes.now c.args.width.bits c.args.reach.size) c.from_residual-in_err-edges.result c.from_residual-in_err-edges.ensures.1
 
-pub returns-in_err-search-clause-cause : goal.returns-in_err-search-clause-cause
-returns-in_err-search-clause-cause c =
-    answered_error (IsUnscheduled c.args.bytes.now c.args.sizes.now c.args.width.bits c.args.reach.size) (one_unscheduled c.args.bytes.now c.args.sizes.now c.args.width.bits c.args.reach.size) c.from_residual-in_err-search.result (of_sched c.in_err-search.field-0.0) c.from_residual-in_err-search.ensures.1 (returns-in_err-search-clause-refused c)
+pub returns-in_err-times-clause-cause : goal.returns-in_err-times-clause-cause
+returns-in_err-times-clause-cause c =
+    answered_error (IsUnscheduled c.args.bytes.now c.args.sizes.now c.args.width.bits c.args.reach.size) (one_unscheduled c.args.bytes.now c.args.sizes.now c.args.width.bits c.args.reach.size) c.from_residual-in_err-times.result (of_sched c.in_err-times.field-0.0) c.from_residual-in_err-times.ensures.1 (returns-in_err-times-clause-refused c)
 
 pub returns-clause-cause : goal.returns-clause-cause
 returns-clause-cause c = λ f is some.
     let found = returns-clause-found c in
-    absurd (not_scheduled c.args.bytes.now c.args.sizes.now c.args.width.bits c.args.reach.size (view_system c.in_ok-search.field-0.flat) f found.serialises found.no_cause is some)
+    absurd (not_scheduled c.args.bytes.now c.args.sizes.now c.args.width.bits c.args.reach.size (view_system c.in_ok-serial.serial) f found.serialises found.no_cause is some)

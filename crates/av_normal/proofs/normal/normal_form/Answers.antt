@@ -7,7 +7,6 @@ use Rattle.av_flat.specs.Trees.{view_variable, view_system}
 use Rattle.av_flat.specs.Signatures.{signatures}
 use Rattle.av_normal.specs.inner.Counted.{HasFew, IsOfMany}
 use Rattle.av_normal.specs.NormalForm.{IsNormalForm}
-use Rattle.av_normal.specs.inner.AllPieces.{HaveAllPieces}
 use Rattle.av_normal.specs.Pairwise.{Pairwise}
 use Rattle.av_normal.specs.Domains.{HasNarrowDomain, IsDeclaredExtent, IsEndless, IsSmallExtent}
 use Rattle.av_normal.proofs.Causes.{few_indices, narrow_domains, many_fault, wide_fault, endless_fault, box_fault, no_cause, bounded_domains}
@@ -58,10 +57,10 @@ pub kept_variables-requires : goal.kept_variables-requires
 kept_variables-requires c =
     let s = view_system c.args.flat.now in
     let found = subst (λ (vars : List Var). Pairwise IsDeclaredExtent (map view_variable vars) c.in_ok-extents.extents) c.as_slice-2.ensures c.in_ok-extents.ensures.found in
-    let along = subst (λ (es : List (Option Bounds)). Pairwise IsDeclaredExtent s.variables es) (sym c.as_slice-5.ensures) found in
-    let all_pieces = subst (λ (vars : List Var). HaveAllPieces (signatures s) s.variables (map view_variable vars)) (sym c.as_slice-4.ensures) c.in_ok-all_pieces.ensures.pieces in
-    let small = subst (λ (es : List (Option Bounds)). AllByRecursion IsSmallExtent es) (c.as_slice-3.ensures ∙ sym c.as_slice-5.ensures) c.in_ok-boxes_fit.ensures.fit in
-    all_held (signatures s) s.variables (map view_variable c.as_slice-4.result.now) c.as_slice-5.result.now (few_indices s c.requires) all_pieces along small
+    let along = subst (λ (es : List (Option Bounds)). Pairwise IsDeclaredExtent s.variables es) (sym c.as_slice-4.ensures) found in
+    let all_pieces = c.in_ok-all_pieces.ensures.pieces in
+    let small = subst (λ (es : List (Option Bounds)). AllByRecursion IsSmallExtent es) (c.as_slice-3.ensures ∙ sym c.as_slice-4.ensures) c.in_ok-boxes_fit.ensures.fit in
+    all_held (signatures s) s.variables (map view_variable c.in_ok-all_pieces.all_pieces) c.as_slice-4.result.now (few_indices s c.requires) all_pieces along small
 
 pub returns-clause-given : goal.returns-clause-given
 returns-clause-given c =
@@ -73,10 +72,10 @@ returns-clause-given c =
     let along = subst (λ (es : List (Option Bounds)). Pairwise IsDeclaredExtent s.variables es) (sym c.as_slice-3.ensures) found in
     let small = c.in_ok-boxes_fit.ensures.fit in
     let extents = c.as_slice-3.result.now in
-    let all_pieces = subst (λ (vars : List Var). HaveAllPieces (signatures s) s.variables (map view_variable vars)) (sym c.as_slice-4.ensures) c.in_ok-all_pieces.ensures.pieces in
+    let all_pieces = c.in_ok-all_pieces.ensures.pieces in
     let form : IsNormalForm s t = record {
       width = refl;
-      variables = normal_variables (signatures s) s.variables (map view_variable c.as_slice-4.result.now) t.variables all_pieces c.in_ok-vars.ensures;
+      variables = normal_variables (signatures s) s.variables (map view_variable c.in_ok-all_pieces.all_pieces) t.variables all_pieces c.in_ok-vars.ensures;
     } in
     record {
       form = form;
