@@ -26,10 +26,10 @@ use av_best::{BestFault, least, length_of};
 use av_compile::{Refusal, checked};
 use av_data::write_schedule;
 use av_depend::edges;
-use av_flat::{Flat, Pass, Reach, Timed};
+use av_flat::{Flat, Reach, Timed};
 use av_names::Size;
 use av_page::Page;
-use av_serial::Serial;
+use av_serial::serial_form;
 use std::alloc::Global;
 
 // The normal form of what a text spells, with its reductions as chains.
@@ -41,7 +41,7 @@ fn chained(alloc: Global, bytes: &[u8], sizes: &[Size], width: Width) -> Result<
         → f ≢ refusal.Memory → IsUnchained bytes.now sizes.now width.bits f }
 {
     let normal = checked(alloc, bytes, sizes, width)?;
-    Ok(Serial.run(alloc, &normal)?)
+    Ok(serial_form(alloc, normal)?)
 }
 
 // The least schedule of a system, and its length.

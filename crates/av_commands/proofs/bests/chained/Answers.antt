@@ -14,15 +14,15 @@ returns-in_err-normal-clause-refused c = λ f is not_memory.
     let was : c.checked.result ≡ Err f = cc in
     in_text (c.checked.ensures.refused f was not_memory)
 
-pub returns-in_err-run-clause-refused : goal.returns-in_err-run-clause-refused
-returns-in_err-run-clause-refused c = λ f is not_memory.
-    let fault = c.in_err-run.field-0.0 in
-    let e : f ≡ of_serial fault = told c.from_residual-in_err-run.result (of_serial fault) f c.from_residual-in_err-run.ensures.1 is in
-    in_reductions fault e (view_system c.in_ok-normal.normal) (normalises c.args.bytes.now c.args.sizes.now c.args.width.bits (view_system c.in_ok-normal.normal) c.in_ok-normal.ensures.found) c.in_err-run.ensures.refuses
+pub returns-in_err-serial_form-clause-refused : goal.returns-in_err-serial_form-clause-refused
+returns-in_err-serial_form-clause-refused c = λ f is not_memory.
+    let fault = c.in_err-serial_form.field-0.0 in
+    let e : f ≡ of_serial fault = told c.from_residual-in_err-serial_form.result (of_serial fault) f c.from_residual-in_err-serial_form.ensures.1 is in
+    in_reductions fault e (view_system c.in_ok-normal.normal) (normalises c.args.bytes.now c.args.sizes.now c.args.width.bits (view_system c.in_ok-normal.normal) c.in_ok-normal.ensures.found) c.in_err-serial_form.ensures.fault
 
 pub returns-clause-found : goal.returns-clause-found
 returns-clause-found c = record {
   normal = view_system c.in_ok-normal.normal;
   normalises = normalises c.args.bytes.now c.args.sizes.now c.args.width.bits (view_system c.in_ok-normal.normal) c.in_ok-normal.ensures.found;
-  given = c.in_ok-run.ensures.gives;
+  given = c.in_ok-serial_form.ensures.given;
 }
