@@ -51,7 +51,7 @@ impl<T> List<T> {
         self.items.as_slice()
     }
 
-    /// A vector of the items, for those who take them out one by one.
+    /// The items as a vector, from which they can be moved out one by one.
     pub fn into_vec(self) -> Vec<T>
         ensures { result.items ≡ self }
     {

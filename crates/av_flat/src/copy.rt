@@ -120,8 +120,7 @@ fn copy_variables(alloc: Global, vars: &[Var]) -> Result<List<Var>, Memory>
     Ok(to)
 }
 
-/// The same variable.
-pub fn copy_variable(alloc: Global, var: &Var) -> Result<Var, Memory>
+fn copy_variable(alloc: Global, var: &Var) -> Result<Var, Memory>
     ensures { IfOk result (λ to. view_variable to ≡ view_variable var.now) }
 {
     let pieces = copy_pieces(alloc, var.pieces.as_slice())?;

@@ -14,7 +14,7 @@ mod then;
 mod timed;
 mod tree;
 
-pub use copy::{copy_flat, copy_map, copy_pieces, copy_tree, copy_variable};
+pub use copy::{copy_flat, copy_map, copy_pieces, copy_tree};
 pub use direction::{along_of, first_moving, moves, prepend_all, sign_vectors};
 pub use flat::{Flat, Kind, Piece, Var};
 pub use laws::{

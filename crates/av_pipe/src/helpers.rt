@@ -71,7 +71,7 @@ fn copy_times(alloc: Global, times: &[Time]) -> Result<List<Time>, Memory>
     Ok(to)
 }
 
-/// What `Pipe` gives, for those who own the system: it is moved and not copied.
+/// What `Pipe` gives of a system that the caller owns: the system is moved into the answer and not copied.
 pub fn with_helpers(alloc: Global, from: Timed) -> Result<Timed, Memory>
     requires legal { IsLegal from }
     requires none { from.helpers ≡ [] }

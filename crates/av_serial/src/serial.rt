@@ -13,8 +13,8 @@ use av_flat::{Feeds, Flat, Pass, Quantity, copy_flat};
 use av_normal::Normal;
 use std::alloc::Global;
 
-/// The system with its reductions as chains, or the first cause that holds against it: what `Serial` gives, for those who own the
-/// system, of which nothing is kept twice.
+/// The system with its reductions as chains, or the first cause that holds against it, as `Serial` answers of a copy: each piece of
+/// the given system is dropped as soon as its new one is made.
 pub fn serial_form(alloc: Global, flat: Flat) -> Result<Flat, SerialFault>
     requires { IsKept (view_system flat) }
     ensures given { IfOk result (λ to. IsGiven (view_system flat) (view_system to)) }
