@@ -57,21 +57,8 @@ fn kept_variable(alloc: Global, var: Var, extent: &Option<Bounds>) -> Result<Var
     requires { IsHeld (view_variable var) extent.now }
     ensures { IfOk result (λ made. HasNonemptyPieces (view_variable var) (view_variable made)) }
 {
-    let Var {
-        name,
-        kind,
-        width,
-        domain,
-        pieces,
-    } = var;
-    let pieces = kept_pieces(alloc, pieces, extent)?;
-    Ok(Var {
-        name,
-        kind,
-        width,
-        domain,
-        pieces,
-    })
+    let pieces = kept_pieces(alloc, var.pieces, extent)?;
+    Ok(Var { pieces, ..var })
 }
 
 /// The variables with their kept pieces.

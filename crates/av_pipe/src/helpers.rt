@@ -78,11 +78,7 @@ pub fn with_helpers(alloc: Global, from: Timed) -> Result<Timed, Memory>
     ensures { IfOk result (λ to. IsPiped from to) }
 {
     let helpers = all_helpers(alloc, &from.flat, from.times.as_slice())?;
-    Ok(Timed {
-        flat: from.flat,
-        times: from.times,
-        helpers,
-    })
+    Ok(Timed { helpers, ..from })
 }
 
 /// The system with its times and a helper for each moved reference.

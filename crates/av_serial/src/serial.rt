@@ -24,9 +24,8 @@ pub fn serial_form(alloc: Global, flat: Flat) -> Result<Flat, SerialFault>
     if nodes > MOST_REDUCTIONS {
         return Err(SerialFault::Limit(Quantity::Reductions, nodes));
     }
-    let Flat { width, vars } = flat;
-    let vars = with_chains(alloc, vars)?;
-    Ok(Flat { width, vars })
+    let vars = with_chains(alloc, flat.vars)?;
+    Ok(Flat { vars, ..flat })
 }
 
 /// Makes every reduction a chain: a partial variable that is folded from point to point along the index that the
