@@ -38,13 +38,13 @@ seen_push [] p = refl
 seen_push (q ∷ pieces) p = ap (λ rs. view_piece q ∷ rs) (seen_push pieces p)
 
 -- one piece more, that is kept where it has a point
-pub next_kept : (item : PieceMade) (all rest : List Piece) (kept new : List PieceMade) (stays : Bool) → ((rs : List Piece) → AreNonemptyPieces (view_piece item ∷ rest) rs → AreNonemptyPieces all (map view_piece kept ++ rs))
-    → SaysPoint item.domain stays → new ≡ cond stays (kept ++ item ∷ []) kept → (rs : List Piece) → AreNonemptyPieces rest rs → AreNonemptyPieces all (map view_piece new ++ rs)
-next_kept item all rest kept new true made says e =
+pub next_kept : (item : PieceMade) (all rest : List Piece) (held new : List PieceMade) (stays : Bool) → ((rs : List Piece) → AreNonemptyPieces (view_piece item ∷ rest) rs → AreNonemptyPieces all (map view_piece held ++ rs))
+    → SaysPoint item.domain stays → new ≡ cond stays (held ++ item ∷ []) held → (rs : List Piece) → AreNonemptyPieces rest rs → AreNonemptyPieces all (map view_piece new ++ rs)
+next_kept item all rest held new true made says e =
     subst (λ (now : List PieceMade). (rs : List Piece) → AreNonemptyPieces rest rs → AreNonemptyPieces all (map view_piece now ++ rs)) (sym e)
-    (subst (λ (now : List Piece). (rs : List Piece) → AreNonemptyPieces rest rs → AreNonemptyPieces all (now ++ rs)) (sym (seen_push kept item)) (one_stays (view_piece item) rest all (map view_piece kept) made says.0 says.1))
-next_kept item all rest kept new false made says e =
-    subst (λ (now : List PieceMade). (rs : List Piece) → AreNonemptyPieces rest rs → AreNonemptyPieces all (map view_piece now ++ rs)) (sym e) (one_left_out (view_piece item) rest all (map view_piece kept) made says)
+    (subst (λ (now : List Piece). (rs : List Piece) → AreNonemptyPieces rest rs → AreNonemptyPieces all (now ++ rs)) (sym (seen_push held item)) (one_stays (view_piece item) rest all (map view_piece held) made says.0 says.1))
+next_kept item all rest held new false made says e =
+    subst (λ (now : List PieceMade). (rs : List Piece) → AreNonemptyPieces rest rs → AreNonemptyPieces all (map view_piece now ++ rs)) (sym e) (one_left_out (view_piece item) rest all (map view_piece held) made says)
 
 pub all_left_out : (qs : List Piece) → AllByRecursion IsEmpty qs → AreNonemptyPieces qs []
 all_left_out [] h = nothing
