@@ -8,7 +8,7 @@ use Rattle.std.proofs.Math.ListN.{get_or-map}
 use Rattle.std.proofs.lemmas.List.FromFn.{take-map-range_with_len, get_or-map-range_with_len, length-map-range_with_len}
 use Rattle.av_flat.specs.declared.timed.Helper.{Helper}
 use Rattle.av_flat.specs.Trees.{Variable, FlatSystem}
-use Rattle.av_flat.specs.Nodes.{nodes, node_place, places_of}
+use Rattle.av_flat.specs.Nodes.{nodes, node_place}
 use Rattle.av_space.specs.Taps.{Tap, taps, taps_of}
 use Rattle.av_space.specs.inner.Sites.{TapMade, tap_of, AreTapsTo, AreNodeTaps}
 
@@ -26,11 +26,6 @@ taps_step s hs k place v here is ts e sites h =
     let f : ℕ → List Tap = λ n. taps_of s hs n (slice_get (nodes s) n) in
     let own : map tap_of ts ≡ f k = e ∙ ap (λ (m : ℕ). taps s hs m v) here ∙ ap (taps_of s hs k) (sym is) in
     map-append (λ (l : List TapMade). map tap_of l) sites (ts ∷ []) ∙ ap₂ (λ (a : List (List Tap)) b. a ++ b ∷ []) h own ∙ sym (one_value_more f k)
-
-pub place_is : (s : FlatSystem) (places : List ℕ) (n : ℕ) → places ≡ places_of s → n < length places → get_or places n 0 ≡ node_place s n
-place_is s places n e low =
-    let size : length places ≡ length (nodes s) = ap (λ (l : List ℕ). length l) e ∙ length-map-range_with_len (node_place s) 0 (length (nodes s)) in
-    ap (λ (l : List ℕ). get_or l n 0) e ∙ get_or-map-range_with_len (node_place s) 0 (length (nodes s)) n n 0 (omega (arith, size, low)) (omega arith)
 
 -- those of one node
 pub taps_at_node : (s : FlatSystem) (hs : List Helper) (sites : List (List TapMade)) → AreNodeTaps s hs sites → (n : ℕ) (v : Variable) → slice_get (nodes s) n ≡ Some v → (d : List TapMade)

@@ -29,7 +29,6 @@ fn node_cells(
     node: usize,
     placement: &Placement,
 ) -> Result<usize, Memory>
-    requires legal { IsLegal timed.now }
     requires within { node < length (nodes (view_system timed.now.flat)) }
     requires placing { IsPlacing placement.now }
     requires time { slice_get timed.now.times node ≡ Some placement.now.time }
@@ -92,7 +91,6 @@ fn add_node(
     cells: &mut List<Cell>,
     slots: &mut List<List<Slot>>,
 ) -> Result<(), Memory>
-    requires legal { IsLegal timed.now }
     requires within { node < length (nodes (view_system timed.now.flat)) }
     requires placing { IsPlacing placement.now }
     requires time { slice_get timed.now.times node ≡ Some placement.now.time }

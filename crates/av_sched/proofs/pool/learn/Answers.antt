@@ -1,6 +1,5 @@
 use Rattle.std.proofs.Common.{rules, ◌<◌, ◌≡◌, ◌∙◌, ◌++◌, ◌∷◌, [], sym, ap, subst, length, arith, All}
 use Rattle.std.proofs.lemmas.List.Elements.{All-push}
-use Rattle.std.proofs.lemmas.Grind.{common_steps}
 use Rattle.av_sched.specs.Witnesses.{IsWitness}
 use Rattle.av_sched.proofs.Bridge.{arcs_length}
 use Rattle.av_sched.proofs.pool.learn.Goals.{then-not-is_listed+in_ok-push, else-not-is_listed}
@@ -28,9 +27,3 @@ loop-k-preserved c =
 -- where memory runs out, the pool is as it was
 pub returns-in_err-push : goal.returns-in_err-push
 returns-in_err-push c = subst (All (IsWitness c.args.edges.now c.args.component.now)) (sym c.in_err-push.ensures.items) c.loop-k.invariant
-
-pub witness_of_edge-witness-requires-clause-among : goal.witness_of_edge-witness-requires-clause-among
-witness_of_edge-witness-requires-clause-among c = grind (arith, common_steps)
-
-pub witness_of_edge-witness-requires-clause-usable : goal.witness_of_edge-witness-requires-clause-usable
-witness_of_edge-witness-requires-clause-usable c = grind (arith, common_steps)

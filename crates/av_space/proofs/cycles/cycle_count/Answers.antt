@@ -28,13 +28,13 @@ bounds-times-node c =
 pub raised-count-requires-clause-small : goal.raised-count-requires-clause-small
 raised-count-requires-clause-small c =
     let s = view_system c.args.timed.now.flat in
-    let are = c.in_ok-points.ensures in
+    let are = c.in_ok-points.ensures.points in
     subst (All (AtMost 4095)) (sym c.as_slice.ensures) (All-weaker (IsComputation s c.loop-node.node) (AtMost 4095) (λ z k. (computed_small c.args.timed.now c.loop-node.node z c.times-times.ensures.legal k).small) c.in_ok-points.points are.each)
 
 pub raised-count-requires-clause-starts : goal.raised-count-requires-clause-starts
 raised-count-requires-clause-starts c =
     let s = view_system c.args.timed.now.flat in
-    let are = c.in_ok-points.ensures in
+    let are = c.in_ok-points.ensures.points in
     let n = c.len-node-end.ensures.count in
     let e = ap (λ (xs : List Time). length xs) c.times-times.ensures.is in
     let t = c.index-times-node.result in
@@ -45,7 +45,7 @@ raised-count-requires-clause-starts c =
 pub loop-node-preserved : goal.loop-node-preserved
 loop-node-preserved c =
     let s = view_system c.args.timed.now.flat in
-    let are = c.in_ok-points.ensures in
+    let are = c.in_ok-points.ensures.points in
     let n = c.len-node-end.ensures.count in
     let e = ap (λ (xs : List Time). length xs) c.times-times.ensures.is in
     let t = c.index-times-node.result in

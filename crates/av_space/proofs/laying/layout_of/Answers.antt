@@ -14,9 +14,11 @@ returns-then-count-gt-MOST_CELLS-clause-refused c =
     let s = view_system c.args.timed.now.flat in
     let placements = c.in_ok-placements.placements in
     let cells = c.in_ok-filled.filled.cells in
-    let are : AreCells s placements cells = all_cells s placements (length (nodes s)) cells (omega arith) c.in_ok-filled.ensures.cells in
-    ((c.in_ok-cycles.cycles, c.in_ok-cycles.ensures.cycles, c.in_ok-cycles.ensures.limit),
-    (cells, record { placings = placements; are_placings = c.in_ok-placements.ensures; are_cells = are }, c.len-count.ensures.count), c.if-count-gt-MOST_CELLS.true)
+    let are : AreCells s placements cells = all_cells s placements (length (nodes s)) cells (omega arith) c.in_ok-filled.ensures.cells in (
+      (c.in_ok-cycles.cycles, c.in_ok-cycles.ensures.cycles, c.in_ok-cycles.ensures.limit),
+      (cells, record { placings = placements; are_placings = c.in_ok-placements.ensures; are_cells = are }, c.len-count.ensures.count),
+      c.if-count-gt-MOST_CELLS.true,
+    )
 
 pub returns-clause-whole : goal.returns-clause-whole
 returns-clause-whole c =
