@@ -16,7 +16,7 @@ ghost use Rattle.av_build.specs.inner.Built.{IsProgrammed};
 ghost use Rattle.av_build.specs.inner.Lanes.{IsPipeSite, IsValueSite, IsValueWork, HasPiece, IsValueMode, IsPlanOn, IsBuiltBy, AreBuilt};
 ghost use Rattle.av_build.specs.inner.Orders.{IsInOrder};
 
-use crate::blueprint::{Blueprint, LanePlan, plan_lanes};
+use crate::blueprint::{Blueprint, HelperOn, LanePlan, plan_lanes};
 use crate::moments::site;
 use crate::order::in_order;
 use crate::ports::{inlet_of, width_read};
@@ -29,6 +29,13 @@ use av_kinds::{CellLanes, Counter, Inlet, Lane, Mode, Program, ProgramSite, Word
 use av_space::{Array, Cells, Layout, Site, Spot};
 use std::alloc::Global;
 
+// A piece on a cell, by its number among those there.
+#[derive(Clone, Copy)]
+struct PieceOn {
+    cell: usize,
+    number: usize,
+}
+
 impl<'a> Blueprint<'a> {
     // The word of a helper's lane on its own cell.
     fn pipe_site(&self, alloc: Global, spot: &Spot<'a>, helper: usize) -> ProgramSite
@@ -36,7 +43,10 @@ impl<'a> Blueprint<'a> {
         requires helper { HasHelper self.now spot.now.cell helper }
         ensures { IsPipeSite self.now (spot_of spot.now) helper result }
     {
-        let lane = self.helper_lane(spot.cell, helper);
+        let lane = self.helper_lane(HelperOn {
+            cell: spot.cell,
+            helper,
+        });
         let first = self.cells.as_slice()[spot.cell].lanes.first;
         ProgramSite {
             inlet: Inlet::Pipe(lane - first),
@@ -99,26 +109,26 @@ impl<'a> Blueprint<'a> {
         })
     }
 
-    // The piece with this number among those on a cell, in the windows of its computations.
+    // A piece on a cell, in the windows of its computations.
     fn value_mode(
         &self,
         alloc: Global,
         flat: &Flat,
         counter: Counter,
-        cell: usize,
-        number: usize,
+        on: PieceOn,
     ) -> Result<Mode<'a>, Memory>
         requires blueprint { IsBlueprint self.now }
         requires counter { IsCounted self.now.array counter }
         requires flat { flat.now ≡ self.now.array.timed.now.flat }
-        requires piece { HasPiece self.now cell number }
-        ensures { IfOk result (λ mode. IsValueMode self.now counter cell number (mode_of mode)) }
+        requires piece { HasPiece self.now on.cell on.number }
+        ensures { IfOk result (λ mode.
+            IsValueMode self.now counter on.cell on.number (mode_of mode)) }
     {
-        let pieces = &self.cells.as_slice()[cell].pieces;
-        let plan = &pieces.spots.as_slice()[number];
+        let pieces = &self.cells.as_slice()[on.cell].pieces;
+        let plan = &pieces.spots.as_slice()[on.number];
         let spot = planned_spot(alloc, &self.array, plan)?;
-        let places = pieces.sites.as_slice()[number].as_slice();
-        let all = self.array.slots(cell);
+        let places = pieces.sites.as_slice()[on.number].as_slice();
+        let all = self.array.slots(on.cell);
         let order = in_order(alloc, all, counter)?;
         let marks = marks(alloc, counter, order.as_slice(), all, &spot.piece.domain)?;
         Ok(Mode {
@@ -145,7 +155,8 @@ impl<'a> Blueprint<'a> {
         let width = spots[0].var.width;
         let mut modes = List::new(alloc);
         for number in 0..spots.len() {
-            modes.push(self.value_mode(alloc, flat, counter, cell, number)?)?;
+            let on = PieceOn { cell, number };
+            modes.push(self.value_mode(alloc, flat, counter, on)?)?;
         }
         Ok(Lane {
             home: cell as u32,

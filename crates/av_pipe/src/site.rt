@@ -15,7 +15,7 @@ use std::alloc::Global;
 
 // A piece whose references are gone through: the place of its variable, its number, the linear part of its node, and the points
 // among which directions are sought.
-#[derive(Clone, Copy, Debug)]
+#[derive(Drop)]
 struct MovedPiece<'a> {
     place: u32,
     number: u32,
@@ -25,15 +25,15 @@ struct MovedPiece<'a> {
 
 // Appends the helper of the reference with this number and this map, where it is moved.
 fn reference_helper(
-    piece: MovedPiece<'_>,
+    piece: &MovedPiece<'_>,
     site: u32,
     map: &Map,
     helpers: &mut List<Helper>,
 ) -> Result<(), Memory>
-    requires linear { AtMost 4 piece.linear.now }
-    requires fine { IsFineMap piece.points.now map.now }
-    ensures { OnOk result (helpers.new ≡ helpers.old
-        ++ helper_of piece.place piece.number site (first_moving piece.linear.now map.now)) }
+    requires linear { AtMost 4 piece.now.linear.now }
+    requires fine { IsFineMap piece.now.points.now map.now }
+    ensures { OnOk result (helpers.new ≡ helpers.old ++ helper_of
+        piece.now.place piece.now.number site (first_moving piece.now.linear.now map.now)) }
 {
     if let Some(direction) = first_moving(piece.linear, map, piece.points) {
         helpers.push(Helper {
@@ -48,15 +48,15 @@ fn reference_helper(
 
 // Appends the helpers of references.
 fn reference_helpers(
-    piece: MovedPiece<'_>,
+    piece: &MovedPiece<'_>,
     found: &[Reference<'_>],
     helpers: &mut List<Helper>,
 ) -> Result<(), Memory>
-    requires linear { AtMost 4 piece.linear.now }
+    requires linear { AtMost 4 piece.now.linear.now }
     requires few { length found.now ≤ 1073741824 }
-    requires fine { AllByRecursion (λ r. IsFineMap piece.points.now r.map) found.now }
+    requires fine { AllByRecursion (λ r. IsFineMap piece.now.points.now r.map) found.now }
     ensures { OnOk result (helpers.new ≡ helpers.old
-        ++ of_references piece.place piece.number piece.linear.now 0 found.now) }
+        ++ of_references piece.now.place piece.now.number piece.now.linear.now 0 found.now) }
 {
     for (site, reference) in found.iter().enumerate() {
         reference_helper(piece, site as u32, reference.map, helpers)?;
@@ -67,14 +67,14 @@ fn reference_helpers(
 // Appends the helpers of the references in a tree.
 fn tree_helpers(
     alloc: Global,
-    piece: MovedPiece<'_>,
+    piece: &MovedPiece<'_>,
     tree: &Tree,
     helpers: &mut List<Helper>,
 ) -> Result<(), Memory>
-    requires linear { AtMost 4 piece.linear.now }
-    requires maps { HasFineMaps piece.points.now (view tree.now) }
+    requires linear { AtMost 4 piece.now.linear.now }
+    requires maps { HasFineMaps piece.now.points.now (view tree.now) }
     ensures { OnOk result (helpers.new ≡ helpers.old ++ of_references
-        piece.place piece.number piece.linear.now 0 (references (view tree.now))) }
+        piece.now.place piece.now.number piece.now.linear.now 0 (references (view tree.now))) }
 {
     let found = tree_references(alloc, tree)?;
     // So few that 32 bits number them.
@@ -105,7 +105,7 @@ pub(crate) fn piece_helpers(
             linear,
             points,
         };
-        tree_helpers(alloc, moved, &piece.tree, helpers)?;
+        tree_helpers(alloc, &moved, &piece.tree, helpers)?;
     }
     Ok(())
 }

@@ -35,7 +35,7 @@ pub(crate) struct Ports {
 }
 
 // A node, and its cells: those from `first` on and before `last`.
-#[derive(Clone, Copy, Debug)]
+#[derive(Clone, Copy)]
 struct NodeCells {
     node: usize,
     first: usize,

@@ -55,7 +55,7 @@ pub fn ends_of(slots: &[Slot]) -> Ends
 }
 
 // A piece on a cell, by its number.
-#[derive(Clone, Copy, Debug)]
+#[derive(Clone, Copy)]
 struct PieceOn {
     cell: usize,
     number: usize,

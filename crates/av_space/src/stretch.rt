@@ -15,7 +15,7 @@ pub struct TapReading {
 }
 
 /// A tap site on a cell: the cell, which reads, and the number of the site among those of its node.
-#[derive(Clone, Copy, Debug)]
+#[derive(Clone, Copy)]
 pub(crate) struct TapAt {
     pub(crate) consumer: u32,
     pub(crate) site: u32,

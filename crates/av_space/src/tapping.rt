@@ -13,7 +13,7 @@ use av_flat::{Helper, ReadingPlace, Timed, Tree, Var, piece_places};
 use std::alloc::Global;
 
 /// A reference of a system: its variable, by the place among all variables, its piece, and its number in the piece.
-#[derive(Clone, Copy, Debug)]
+#[derive(Clone, Copy)]
 pub(crate) struct ReferenceAt {
     pub(crate) place: usize,
     pub(crate) piece: usize,
