@@ -173,8 +173,9 @@ fn add_reference(
     if input.kind.is_computed() {
         return Ok(());
     }
+    let place = nodes.place(at.node);
     let own = ReferenceAt {
-        place: nodes.place(at.node),
+        place,
         piece: at.number as usize,
         site: number,
     };
