@@ -1,5 +1,5 @@
 -- What a choice of all parts does to the best one, and when choices are left out.
-use Rattle.std.proofs.Common.{◌≡◌, ℕ, zero, suc, ◌+◌, ◌<◌, ◌≤◌, ℤ, pos, ◌≤ℤ◌, ◌⊎◌, inl, inr, ⊎_elim, Option, Some, None, List, ◌∷◌, length, take, drop, sym, ap, subst, ◌∙◌, arith}
+use Rattle.std.proofs.Common.{◌≡◌, ℕ, zero, suc, ◌<◌, ◌≤◌, ℤ, pos, ◌≤ℤ◌, inl, inr, ⊎_elim, Option, Some, None, List, ◌∷◌, length, take, drop, sym, ap, subst, ◌∙◌, arith}
 use Rattle.std.proofs.lemmas.Int.{ints}
 use Rattle.std.proofs.lemmas.Bool.{cases_eq}
 use Rattle.std.proofs.lemmas.Option.{slice_get_within}
@@ -16,11 +16,12 @@ use Rattle.av_sched.proofs.Walking.{not_before}
 use Rattle.av_sched.proofs.Tries.{not_itself, not_both, cost_length}
 use Rattle.av_sched.proofs.Pricing.{dear_later}
 use Rattle.av_best.specs.declared.best.Best.{Best}
+use Rattle.av_best.specs.declared.space.Estimate.{Estimate}
 use Rattle.av_best.specs.declared.span.PartSpan.{PartSpan}
 use Rattle.av_best.specs.Lengths.{HasLength}
 use Rattle.av_best.specs.Least.{all_nodes}
 use Rattle.av_best.specs.inner.Spans.{AreSpanned, AreLows, IsLeastAbove}
-use Rattle.av_best.specs.inner.Joint.{FitsIn, joint_cost, IsMet, IsChosen, IsSound, IsBarred, HasWalked, IsForbidden, IsBound, IsAhead}
+use Rattle.av_best.specs.inner.Joint.{FitsIn, joint_cost, IsMet, IsChosen, IsSound, IsBarred, HasWalked, IsForbidden, IsBound, IsAhead, IsBehind}
 use Rattle.av_best.proofs.Every.{as_many, all_within, same_choice}
 
 -- ---- lengths
@@ -152,14 +153,15 @@ module _ (s : FlatSystem) (c k : ℕ) (linear : List Point) where
   barred_none None forbidden = λ other parts agrees off h. forbidden other off agrees h
   barred_none (Some best) forbidden = λ other parts agrees n f less. forbidden other f.offsets agrees f.are
 
-  pub barred_long : (best : Best) (m : ℕ) → IsBound s c k linear m → best.cycles < m → IsBarred s c k linear (Some best)
-  barred_long best m bound more = λ other parts agrees n f less.
+  -- where the parts are no shorter than the estimate, and the rest costs no less than its floor
+  pub barred_behind : (best : Option Best) (estimate : Estimate) (rest : Price) → IsSound s c best → IsBound s c k linear estimate.cycles → IsSpent s linear (take k (all_nodes s)) estimate.spent → IsFloor s c (drop k (all_nodes s)) rest
+      → IsBehind estimate rest best → IsBarred s c k linear best
+  barred_behind None estimate rest sound bound spent floor behind = absurd behind
+  barred_behind (Some best) estimate rest sound bound spent floor (inl longer) = λ other parts agrees n f less.
       let l = bound other n parts agrees f in
-      ⊎_elim (λ h. omega (arith, more, l, h)) (λ h. let e = h.0 in omega (arith, more, l, e)) less
-
-  pub barred_dear : (best : Best) (m : ℕ) (spent rest : Price) → IsSound s c (Some best) → IsBound s c k linear m → m ≡ best.cycles → IsSpent s linear (take k (all_nodes s)) spent → IsFloor s c (drop k (all_nodes s)) rest
-      → (best.price.left < spent.left + rest.left) ⊎ ((best.price.left ≤ spent.left + rest.left) × (best.price.size < spent.size + rest.size)) → IsBarred s c k linear (Some best)
-  barred_dear best m spent rest sound bound e is_spent floor above = λ other parts agrees n f less.
+      ⊎_elim (λ h. omega (arith, longer, l, h)) (λ h. let e = h.0 in omega (arith, longer, l, e)) less
+  barred_behind (Some best) estimate rest sound bound spent floor (inr dearer) = λ other parts agrees n f less.
       let l = bound other n parts agrees f in
+      let e = dearer.0 in
       ⊎_elim (λ h. omega (arith, e, l, h))
-      (λ h. dear_later s c (all_nodes s) k linear best.parts.items spent rest best.price is_spent floor sound.spent above other parts agrees h.1) less
+      (λ h. dear_later s c (all_nodes s) k linear best.parts.items estimate.spent rest best.price spent floor sound.spent dearer.1 other parts agrees h.1) less

@@ -1,13 +1,13 @@
 //! The walk through the choices of all nodes together: depth first, one node after another. What is left out is known to have no
 //! schedule, or none that comes before the best one so far.
 
-ghost use Rattle.std.specs.Prelude.{◌≡◌, ◌≤◌, ◌<◌, ◌↔◌, length, take, drop, All, IfOk, IsTrue};
+ghost use Rattle.std.specs.Prelude.{◌≡◌, ◌≤◌, ◌<◌, ◌↔◌, length, take, All, IfOk, IsTrue};
 ghost use Rattle.av_sched.specs.Choices.{AreLinearParts};
 ghost use Rattle.av_sched.specs.Order.{cost, IsLess};
 ghost use Rattle.av_sched.specs.Witnesses.{IsWitness};
-ghost use Rattle.av_sched.specs.Prices.{IsSpent, IsFloor};
+ghost use Rattle.av_sched.specs.Prices.{IsSpent};
 ghost use Rattle.av_best.specs.inner.Spans.{AreSpanned};
-ghost use Rattle.av_best.specs.inner.Joint.{IsChosen, IsSound, IsAhead, IsBarred, IsBound, HasWalked};
+ghost use Rattle.av_best.specs.inner.Joint.{IsChosen, IsSound, IsAhead, IsBehind, IsBound, HasWalked};
 ghost use Rattle.av_best.specs.inner.SearchSpaces.{system_of, IsSearchSpace};
 
 use crate::best::Best;
@@ -73,35 +73,18 @@ fn is_better(
     }
 }
 
-// Whether the choices that have these parts for the first nodes, none of which is shorter than the bound, can be left out.
-fn is_barred(
-    _space: &SearchSpace<'_>,
-    _level: usize,
-    _linear: &[Point],
-    cycles: u64,
-    spent: Price,
-    rest: Price,
-    best: &Option<Best>,
-) -> bool
-    requires space { IsSearchSpace _space.now }
-    requires level { _level ≤ length _space.now.nodes.now }
-    requires bound { IsBound (system_of _space.now)
-        _space.now.reach.size _level _linear.now cycles }
-    requires spent { IsSpent (system_of _space.now) _linear.now
-        (take _level _space.now.nodes.now) spent }
-    requires rest { IsFloor (system_of _space.now) _space.now.reach.size
-        (drop _level _space.now.nodes.now) rest }
-    requires best { IsSound (system_of _space.now) _space.now.reach.size best.now }
-    ensures { IsTrue result
-        → IsBarred (system_of _space.now) _space.now.reach.size _level _linear.now best.now }
+// Whether choices that are no shorter than the estimate, and cost no less than what was spent and the rest together, come behind
+// the best one so far.
+fn is_behind(estimate: Estimate, rest: Price, best: &Option<Best>) -> bool
+    ensures { IsTrue result → IsBehind estimate rest best.now }
 {
     let Some(found) = best else {
         return false;
     };
-    if cycles != found.cycles {
-        return cycles > found.cycles;
+    if estimate.cycles != found.cycles {
+        return estimate.cycles > found.cycles;
     }
-    is_above(at_least(spent, rest), found.price)
+    is_above(at_least(estimate.spent, rest), found.price)
 }
 
 // The best choice after one that has all parts.
@@ -259,10 +242,10 @@ fn walk_unless_barred(
     else {
         return Ok(best);
     };
+    let estimate = Estimate { spent, cycles };
     let rest = space.plan.floors[space.nodes.len() - level];
-    if is_barred(space, level, linear, cycles, spent, rest, &best) {
+    if is_behind(estimate, rest, &best) {
         return Ok(best);
     }
-    let estimate = Estimate { spent, cycles };
     walk(alloc, space, level, estimate, linear, spans, pool, best)
 }

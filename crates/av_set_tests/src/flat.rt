@@ -52,7 +52,7 @@ impl Pass for Mark {
 
     ghost refuses = { λ from fault. fault ≡ from.word };
 
-    fn run(&self, _alloc: Global, from: &MarkedWord) -> Result<MarkedWord, u32> {
+    fn run(&self, _: Global, from: &MarkedWord) -> Result<MarkedWord, u32> {
         if from.marks >= self.most {
             return Err(from.word);
         }

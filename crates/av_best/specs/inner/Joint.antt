@@ -1,5 +1,5 @@
 -- What a walk through the choices of all nodes together knows. Only private contracts cite this.
-use Rattle.std.specs.Prelude.{ℕ, ◌≤◌, ℤ, pos, ◌<ℤ◌, List, ◌∷◌, Option, Some, None, Contains}
+use Rattle.std.specs.Prelude.{◌≡◌, ℕ, ◌+◌, ◌<◌, ◌≤◌, ◌⊎◌, ℤ, pos, ◌<ℤ◌, List, ◌∷◌, Option, Some, None, Contains}
 use Rattle.av_tree.specs.Points.{Point}
 use Rattle.av_flat.specs.Trees.{FlatSystem}
 use Rattle.av_flat.specs.Nodes.{IsComputation}
@@ -8,9 +8,11 @@ use Rattle.av_sched.specs.Choices.{AreLinearParts}
 use Rattle.av_sched.specs.Order.{cost, IsLess}
 use Rattle.av_sched.specs.Parts.{Agrees}
 use Rattle.av_sched.specs.Prices.{IsSpent}
+use Rattle.av_sched.specs.declared.price.Price.{Price}
 use Rattle.av_best.specs.Lengths.{HasLength}
 use Rattle.av_best.specs.Least.{all_nodes}
 use Rattle.av_best.specs.declared.best.Best.{Best}
+use Rattle.av_best.specs.declared.space.Estimate.{Estimate}
 
 -- the linear parts have offsets with which all computations are before cycle n
 pub record FitsIn (s : FlatSystem) (linear : List Point) (n : ℕ) : Type 0 where
@@ -70,6 +72,15 @@ IsBounded s c k linear (Some m) = IsBound s c k linear m
 abbrev pub IsAhead : FlatSystem → ℕ → List Point → Option Best → Type 0
 IsAhead s n linear None = Unit {0}
 IsAhead s n linear (Some best) = IsLess (joint_cost s n linear) (joint_cost s best.cycles best.parts.items)
+
+-- what was spent and the rest are together above this price, by the broadcasts that are left and then by size
+abbrev pub IsDearer : Price → Price → Price → Type 0
+IsDearer spent rest price = (price.left < spent.left + rest.left) ⊎ ((price.left ≤ spent.left + rest.left) × (price.size < spent.size + rest.size))
+
+-- choices no shorter than the estimate come behind the best one, if they cost no less than what was spent and the rest together
+abbrev pub IsBehind : Estimate → Price → Option Best → Type 0
+IsBehind estimate rest None = ⊥
+IsBehind estimate rest (Some best) = (best.cycles < estimate.cycles) ⊎ ((estimate.cycles ≡ best.cycles) × IsDearer estimate.spent rest best.price)
 
 -- no choice has offsets, or no choice comes before the best one
 abbrev pub IsBest : FlatSystem → ℕ → Option Best → Type 0

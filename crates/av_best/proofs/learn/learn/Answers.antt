@@ -1,12 +1,8 @@
-use Rattle.std.proofs.Common.{◌≡◌, ◌<◌, ◌∙◌, ◌++◌, ◌∷◌, [], ℕ, List, sym, ap, subst, length, get_or, arith, rules, All}
-use Rattle.std.specs.Prelude.{slice_index_or}
+use Rattle.std.proofs.Common.{◌≡◌, ◌<◌, ◌∙◌, ◌++◌, ◌∷◌, [], ℕ, sym, ap, subst, length, get_or, arith, rules, All}
 use Rattle.std.proofs.lemmas.List.Elements.{All-push}
-use Rattle.av_flat.specs.Trees.{view_system}
-use Rattle.av_flat.specs.Nodes.{nodes}
 use Rattle.av_sched.specs.Leads.{IsUsable}
 use Rattle.av_sched.specs.Witnesses.{IsWitness}
 use Rattle.av_sched.proofs.Bridge.{arcs_length}
-use Rattle.av_best.proofs.Every.{as_many, node_there}
 use Rattle.av_best.proofs.learn.learn.Goals.{then-not-is_listed+in_ok-push, else-not-is_listed}
 use Rattle.av_best.proofs.learn.learn.Goals as goal
 

@@ -1,4 +1,4 @@
-use Rattle.std.proofs.Common.{rules, ◌≡◌, ◌<◌, ◌≤◌, ◌∙◌, sym, ap, subst, length, suc, pos, add-one, take, ◌++◌, ◌∷◌, [], arith, get_or, ℕ, ◌+◌}
+use Rattle.std.proofs.Common.{rules, ◌≡◌, ◌<◌, ◌≤◌, ◌∙◌, sym, ap, subst, length, suc, pos, add-one, take, drop, refl, ◌++◌, ◌∷◌, [], arith, get_or, ℕ, ◌+◌}
 use Rattle.std.specs.Prelude.{List, slice_set, slice_index_or}
 use Rattle.std.proofs.Math.ListN.{length-set}
 use Rattle.av_flat.specs.Trees.{view_system}
@@ -6,15 +6,16 @@ use Rattle.av_flat.specs.Nodes.{nodes}
 use Rattle.av_tree.specs.Points.{Point}
 use Rattle.av_sched.specs.declared.price.Price.{Price}
 use Rattle.av_sched.specs.Parts.{AreParts}
-use Rattle.av_sched.specs.Prices.{IsSpent, ArePricesAt}
+use Rattle.av_sched.specs.Prices.{IsSpent, IsFloor, ArePricesAt}
 use Rattle.av_sched.proofs.Steps.{parts_at, part_is_valid, take_more}
-use Rattle.av_sched.proofs.Pricing.{price_there}
+use Rattle.av_sched.proofs.Pricing.{price_there, floor_at}
 use Rattle.av_base.proofs.Lists.{same_default, take_whole}
 use Rattle.av_best.specs.declared.span.PartSpan.{PartSpan}
+use Rattle.av_best.specs.declared.space.Estimate.{Estimate}
 use Rattle.av_best.specs.inner.Spans.{AreSpanned}
 use Rattle.av_best.specs.inner.Joint.{IsBound, IsBounded, HasWalked}
 use Rattle.av_best.proofs.Every.{as_many, node_there}
-use Rattle.av_best.proofs.Leaving.{barred_none}
+use Rattle.av_best.proofs.Leaving.{barred_none, barred_behind}
 use Rattle.av_best.proofs.Spanning.{span_there}
 use Rattle.av_best.proofs.Trying.{IsWalking, nothing_there, walking_more, walking_done, set_valid, same_next, spanned_now, spanned_back, spanned_more, spanned_less, spent_there}
 use Rattle.av_best.proofs.walk.+walk.Goals as goal
@@ -51,6 +52,22 @@ walk_unless_barred-returns-in_default-clause-walked t c =
     let size = c.args.space.now.reach.size in
     let forbidden = subst (IsBounded s size c.args.level c.args.linear.now) c.in_default.is c.in_ok-cycles.ensures in
     nothing_there s size c.args.level c.args.linear.now c.args.best c.requires.best (barred_none s size c.args.level c.args.linear.now c.args.best forbidden)
+
+pub walk_unless_barred-returns-then-is_behind-clause-walked : goal.walk_unless_barred-returns-then-is_behind-clause-walked
+walk_unless_barred-returns-then-is_behind-clause-walked t c =
+    let s = view_system c.args.space.now.flat.now in
+    let ns = c.args.space.now.nodes.now in
+    let size = c.args.space.now.reach.size in
+    let level = c.args.level in
+    let linear = c.args.linear.now in
+    let estimate : Estimate = record { spent = c.args.spent; cycles = c.in-Some.cycles } in
+    let rest = c.index-rest.result.now in
+    let bound = subst (IsBounded s size level linear) c.in-Some.is c.in_ok-cycles.ensures in
+    let spent = subst (λ (xs : List ℕ). IsSpent s linear (take level xs) c.args.spent) c.requires.space.nodes c.requires.spent in
+    let least = floor_at s size ns c.args.space.now.plan.now.floors.items level _ rest c.requires.space.floors c.requires.level refl c.index-rest.ensures in
+    let floor = subst (λ (xs : List ℕ). IsFloor s size (drop level xs) rest) c.requires.space.nodes least in
+    nothing_there s size level linear c.args.best c.requires.best
+    (barred_behind s size level linear c.args.best estimate rest c.requires.best bound spent floor (c.is_behind.ensures c.if-is_behind.true))
 
 pub walk-walk_unless_barred-requires : goal.walk-walk_unless_barred-requires
 walk-walk_unless_barred-requires t c =
