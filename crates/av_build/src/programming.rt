@@ -24,7 +24,7 @@ use crate::sorting::kinds_of;
 use crate::spots::planned_spot;
 use crate::windows::{marks, windows};
 use av_base::{List, Memory};
-use av_flat::{Flat, Timed};
+use av_flat::Timed;
 use av_kinds::{CellLanes, Counter, Inlet, Lane, Mode, Program, ProgramSite, WordSource, Work};
 use av_space::{Array, Cells, Layout, Site, Spot};
 use std::alloc::Global;
@@ -60,7 +60,6 @@ impl<'a> Blueprint<'a> {
     fn value_site(
         &self,
         alloc: Global,
-        flat: &Flat,
         counter: Counter,
         order: &[usize],
         spot: &Spot<'a>,
@@ -68,7 +67,6 @@ impl<'a> Blueprint<'a> {
     ) -> Result<ProgramSite, Memory>
         requires blueprint { IsBlueprint self.now }
         requires counter { IsCounted self.now.array counter }
-        requires flat { flat.now ≡ self.now.array.timed.now.flat }
         requires place { IsPlaceOn self.now spot.now place.now }
         requires order { IsInOrder (count_in counter) spot.now.slots order.now }
         ensures { IfOk result (IsValueSite self.now counter spot.now place.now) }
@@ -79,29 +77,28 @@ impl<'a> Blueprint<'a> {
         let moments = self.moments(alloc, counter, order, spot, place)?;
         let read = &place.place;
         let tree = read.tree;
-        let width = width_read(flat, spot.var.width, tree);
-        site(alloc, inlet_of(flat, tree), width, moments.as_slice())
+        let timed = self.array.system();
+        let width = width_read(&timed.flat, spot.var.width, tree);
+        site(alloc, inlet_of(&timed.flat, tree), width, moments.as_slice())
     }
 
     // A piece on a cell, with what brings the word of each of its places that read.
     fn work(
         &self,
         alloc: Global,
-        flat: &Flat,
         counter: Counter,
         spot: &Spot<'a>,
         places: &[Site<'a>],
     ) -> Result<Work<'a>, Memory>
         requires blueprint { IsBlueprint self.now }
         requires counter { IsCounted self.now.array counter }
-        requires flat { flat.now ≡ self.now.array.timed.now.flat }
         requires spot { IsSpotOn self.now spot.now places.now }
         ensures { IfOk result (λ work. IsValueWork self.now counter spot.now (work_of work)) }
     {
         let order = in_order(alloc, spot.slots.as_slice(), counter)?;
         let mut sites = List::new(alloc);
         for place in places {
-            sites.push(self.value_site(alloc, flat, counter, order.as_slice(), spot, place)?)?;
+            sites.push(self.value_site(alloc, counter, order.as_slice(), spot, place)?)?;
         }
         Ok(Work {
             sites,
@@ -113,13 +110,11 @@ impl<'a> Blueprint<'a> {
     fn value_mode(
         &self,
         alloc: Global,
-        flat: &Flat,
         counter: Counter,
         on: PieceOn,
     ) -> Result<Mode<'a>, Memory>
         requires blueprint { IsBlueprint self.now }
         requires counter { IsCounted self.now.array counter }
-        requires flat { flat.now ≡ self.now.array.timed.now.flat }
         requires piece { HasPiece self.now on.cell on.number }
         ensures { IfOk result (λ mode.
             IsValueMode self.now counter on.cell on.number (mode_of mode)) }
@@ -133,7 +128,7 @@ impl<'a> Blueprint<'a> {
         let marks = marks(alloc, counter, order.as_slice(), all, &spot.piece.domain)?;
         Ok(Mode {
             windows: windows(alloc, marks.as_slice())?,
-            work: self.work(alloc, flat, counter, &spot, places)?,
+            work: self.work(alloc, counter, &spot, places)?,
         })
     }
 
@@ -141,13 +136,11 @@ impl<'a> Blueprint<'a> {
     fn value(
         &self,
         alloc: Global,
-        flat: &Flat,
         counter: Counter,
         cell: usize,
     ) -> Result<Lane<'a>, Memory>
         requires blueprint { IsBlueprint self.now }
         requires counter { IsCounted self.now.array counter }
-        requires flat { flat.now ≡ self.now.array.timed.now.flat }
         requires cell { cell < length (cells_of self.now.array) }
         ensures { IfOk result (λ lane. IsBuiltBy self.now counter cell None (lane_of lane)) }
     {
@@ -156,7 +149,7 @@ impl<'a> Blueprint<'a> {
         let mut modes = List::new(alloc);
         for number in 0..spots.len() {
             let on = PieceOn { cell, number };
-            modes.push(self.value_mode(alloc, flat, counter, on)?)?;
+            modes.push(self.value_mode(alloc, counter, on)?)?;
         }
         Ok(Lane {
             home: cell as u32,
@@ -171,35 +164,32 @@ impl<'a> Blueprint<'a> {
     fn lane(
         &self,
         alloc: Global,
-        flat: &Flat,
         counter: Counter,
         plan: &LanePlan,
     ) -> Result<Lane<'a>, Memory>
         requires blueprint { IsBlueprint self.now }
         requires counter { IsCounted self.now.array counter }
-        requires flat { flat.now ≡ self.now.array.timed.now.flat }
         requires plan { IsPlanOn self.now plan.now.cell plan.now.helper }
         requires ranks { length (helpers_of self.now.array) < 18446744073709551615 }
         ensures { IfOk result (λ lane.
             IsBuiltBy self.now counter plan.now.cell plan.now.helper (lane_of lane)) }
     {
         match plan.helper {
-            Some(helper) => self.pipeline(alloc, flat, counter, plan.cell, helper),
-            None => self.value(alloc, flat, counter, plan.cell),
+            Some(helper) => self.pipeline(alloc, counter, plan.cell, helper),
+            None => self.value(alloc, counter, plan.cell),
         }
     }
 
     // All lanes, in the order of their plans.
-    fn built(&self, alloc: Global, flat: &Flat, counter: Counter) -> Result<List<Lane<'a>>, Memory>
+    fn built(&self, alloc: Global, counter: Counter) -> Result<List<Lane<'a>>, Memory>
         requires blueprint { IsBlueprint self.now }
         requires counter { IsCounted self.now.array counter }
-        requires flat { flat.now ≡ self.now.array.timed.now.flat }
         requires ranks { length (helpers_of self.now.array) < 18446744073709551615 }
         ensures { IfOk result (AreBuilt self.now counter self.now.lanes) }
     {
         let mut lanes = List::new(alloc);
         for plan in self.lanes.as_slice() {
-            lanes.push(self.lane(alloc, flat, counter, plan)?)?;
+            lanes.push(self.lane(alloc, counter, plan)?)?;
         }
         Ok(lanes)
     }
@@ -245,9 +235,8 @@ fn from_blueprint<'a>(
     ensures { IfOk result (λ program.
         IsProgrammed timed.now cells.now counter (program_of program)) }
 {
-    let flat = &timed.flat;
-    let inputs = blueprint.port_widths(alloc, flat, cells.inputs.as_slice())?;
-    let lanes = blueprint.built(alloc, flat, counter)?;
+    let inputs = blueprint.port_widths(alloc, cells.inputs.as_slice())?;
+    let lanes = blueprint.built(alloc, counter)?;
     let own = blueprint.cell_lanes(alloc)?;
     let kinds = kinds_of(alloc, blueprint.cells.as_slice())?;
     let outputs = blueprint.values(alloc, cells.outputs.as_slice())?;
