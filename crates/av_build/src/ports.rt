@@ -95,11 +95,7 @@ impl Blueprint<'_> {
     }
 
     /// The widths of the input ports: those of the variables that are read there.
-    pub(crate) fn port_widths(
-        &self,
-        alloc: Global,
-        ports: &[InPort],
-    ) -> Result<List<Width>, Memory>
+    pub(crate) fn port_widths(&self, alloc: Global, ports: &[InPort]) -> Result<List<Width>, Memory>
         requires blueprint { IsBlueprint self.now }
         requires ports { ports.now ≡ self.now.array.cells.now.inputs }
         ensures { IfOk result (HasPorts (seen self.now.array)) }

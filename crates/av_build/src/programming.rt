@@ -79,7 +79,12 @@ impl<'a> Blueprint<'a> {
         let tree = read.tree;
         let timed = self.array.system();
         let width = width_read(&timed.flat, spot.var.width, tree);
-        site(alloc, inlet_of(&timed.flat, tree), width, moments.as_slice())
+        site(
+            alloc,
+            inlet_of(&timed.flat, tree),
+            width,
+            moments.as_slice(),
+        )
     }
 
     // A piece on a cell, with what brings the word of each of its places that read.
@@ -107,12 +112,7 @@ impl<'a> Blueprint<'a> {
     }
 
     // A piece on a cell, in the windows of its computations.
-    fn value_mode(
-        &self,
-        alloc: Global,
-        counter: Counter,
-        on: PieceOn,
-    ) -> Result<Mode<'a>, Memory>
+    fn value_mode(&self, alloc: Global, counter: Counter, on: PieceOn) -> Result<Mode<'a>, Memory>
         requires blueprint { IsBlueprint self.now }
         requires counter { IsCounted self.now.array counter }
         requires piece { HasPiece self.now on.cell on.number }
@@ -133,12 +133,7 @@ impl<'a> Blueprint<'a> {
     }
 
     // The lane of the value of a cell: its pieces by their numbers.
-    fn value(
-        &self,
-        alloc: Global,
-        counter: Counter,
-        cell: usize,
-    ) -> Result<Lane<'a>, Memory>
+    fn value(&self, alloc: Global, counter: Counter, cell: usize) -> Result<Lane<'a>, Memory>
         requires blueprint { IsBlueprint self.now }
         requires counter { IsCounted self.now.array counter }
         requires cell { cell < length (cells_of self.now.array) }
@@ -161,12 +156,7 @@ impl<'a> Blueprint<'a> {
     }
 
     // The lane of a plan.
-    fn lane(
-        &self,
-        alloc: Global,
-        counter: Counter,
-        plan: &LanePlan,
-    ) -> Result<Lane<'a>, Memory>
+    fn lane(&self, alloc: Global, counter: Counter, plan: &LanePlan) -> Result<Lane<'a>, Memory>
         requires blueprint { IsBlueprint self.now }
         requires counter { IsCounted self.now.array counter }
         requires plan { IsPlanOn self.now plan.now.cell plan.now.helper }
