@@ -58,6 +58,15 @@ impl<'a> TimedNodes<'a> {
         self.timed.times.as_slice()
     }
 
+    /// The time of a node.
+    pub(crate) fn time(&self, node: usize) -> &'a Time
+        requires { node < length (nodes (view_system self.now.flat)) }
+        ensures is { slice_get self.now.times node ≡ Some result.now }
+        ensures legal { IsLegal self.now }
+    {
+        &self.timed.times.as_slice()[node]
+    }
+
     /// How many nodes there are.
     pub(crate) fn len(&self) -> usize
         ensures count { result ≡ length (nodes (view_system self.now.flat)) }
