@@ -2,7 +2,7 @@
 
 ghost use Rattle.std.specs.Prelude.{◌≡◌, ◌<◌, ◌≤◌, length, Some, slice_get, IfOk};
 ghost use Rattle.av_flat.specs.Trees.{view_system, view_variable};
-ghost use Rattle.av_flat.specs.Nodes.{nodes, number_at, places_of, numbers_of};
+ghost use Rattle.av_flat.specs.Nodes.{nodes, number_at, node_place, places_of, numbers_of};
 
 use crate::flat::{Flat, Var};
 use av_base::{List, Memory};
@@ -129,13 +129,21 @@ impl<'a> Nodes<'a> {
         self.numbers.as_slice()[place]
     }
 
+    /// The place of a node among the variables.
+    pub fn place(&self, node: usize) -> usize
+        requires { node < length (nodes (view_system self.now)) }
+        ensures { result ≡ node_place (view_system self.now) node }
+    {
+        self.places.as_slice()[node]
+    }
+
     /// The variable of a node.
     pub fn variable(&self, node: usize) -> &'a Var
         requires { node < length (nodes (view_system self.now)) }
         ensures { slice_get (nodes (view_system self.now)) node ≡ Some (view_variable result.now) }
     {
         let vars = self.flat.vars.as_slice();
-        let place = self.places.as_slice()[node];
+        let place = self.place(node);
         &vars[place]
     }
 }

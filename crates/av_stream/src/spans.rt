@@ -13,7 +13,7 @@ ghost use Rattle.av_stream.specs.Periods.{HasPeriod};
 ghost use Rattle.av_stream.specs.inner.Standing.{IsUsedIn, HasSpan};
 
 use crate::standing::{matrix_of, stands};
-use av_flat::{Flat, Timed, Var};
+use av_flat::{Flat, Timed, Var, place_of};
 use av_space::{Cell, Cells};
 
 // The variable of a node.
@@ -21,17 +21,9 @@ fn variable_of(flat: &Flat, node: usize) -> &Var
     requires { node < length (nodes (view_system flat.now)) }
     ensures { slice_get (nodes (view_system flat.now)) node ≡ Some (view_variable result.now) }
 {
-    let mut left = node;
-    for var in flat.vars.as_slice() {
-        if !var.is_node() {
-            continue;
-        }
-        if left == 0 {
-            return var;
-        }
-        left -= 1;
-    }
-    unreachable!()
+    let place = place_of(flat, node);
+    let vars = flat.vars.as_slice();
+    &vars[place]
 }
 
 // The number of cycles from the first computation of a cell to the last one, both included.
