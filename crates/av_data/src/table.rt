@@ -1,4 +1,4 @@
-ghost use Rattle.std.specs.Prelude.{◌≡◌, ◌≤◌, ◌<◌, ◌++◌, length, All, decimal, IsErr, OnOk, OnErr};
+ghost use Rattle.std.specs.Prelude.{◌≤◌, ◌<◌, ◌++◌, length, All, decimal, IsErr, OnOk, OnErr};
 ghost use Rattle.std.specs.List.{flat_map};
 ghost use Rattle.av_base.specs.Outside.{Adds, AddsPrefix, HasRisen};
 ghost use Rattle.av_page.specs.Pages.{Puts};
