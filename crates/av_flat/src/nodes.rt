@@ -9,8 +9,8 @@ use av_base::{List, Memory};
 use std::alloc::Global;
 use std::marker::Model;
 
-/// The place of each node among the variables.
-pub fn places(alloc: Global, flat: &Flat) -> Result<List<usize>, Memory>
+// The place of each node among the variables.
+fn places(alloc: Global, flat: &Flat) -> Result<List<usize>, Memory>
     ensures { IfOk result (λ to. to ≡ places_of (view_system flat.now)) }
 {
     let vars = flat.vars.as_slice();
@@ -24,8 +24,8 @@ pub fn places(alloc: Global, flat: &Flat) -> Result<List<usize>, Memory>
     Ok(to)
 }
 
-/// How many nodes stand before each variable.
-pub fn numbers(alloc: Global, flat: &Flat) -> Result<List<usize>, Memory>
+// How many nodes stand before each variable.
+fn numbers(alloc: Global, flat: &Flat) -> Result<List<usize>, Memory>
     ensures { IfOk result (λ to. to ≡ numbers_of (view_system flat.now)) }
 {
     let vars = flat.vars.as_slice();
@@ -40,8 +40,8 @@ pub fn numbers(alloc: Global, flat: &Flat) -> Result<List<usize>, Memory>
     Ok(to)
 }
 
-/// The place of a node among the variables, which is looked for without memory.
-pub fn place_of(flat: &Flat, node: usize) -> usize
+// The place of a node among the variables.
+fn place_of(flat: &Flat, node: usize) -> usize
     requires { node < length (nodes (view_system flat.now)) }
     ensures fits { result < length flat.now.vars }
     ensures is { slice_get (nodes (view_system flat.now)) node
@@ -59,6 +59,16 @@ pub fn place_of(flat: &Flat, node: usize) -> usize
         count += 1;
     }
     unreachable!()
+}
+
+/// The variable of a node, which is looked for without memory.
+pub fn variable_of(flat: &Flat, node: usize) -> &Var
+    requires { node < length (nodes (view_system flat.now)) }
+    ensures { slice_get (nodes (view_system flat.now)) node ≡ Some (view_variable result.now) }
+{
+    let place = place_of(flat, node);
+    let vars = flat.vars.as_slice();
+    &vars[place]
 }
 
 /// The nodes of a system, found once. Contracts see the system.
