@@ -1,5 +1,5 @@
 -- What the tap sites of a piece on a cell read there, by the links and the ports of the array.
-use Rattle.std.proofs.Common.{◌≡◌, ℕ, List, length, sym, ap, subst, ◌∙◌, arith, Option, Some, None, ◌↔◌}
+use Rattle.std.proofs.Common.{◌≡◌, ℕ, List, sym, ap, subst, ◌∙◌, arith, Option, Some, None, ◌↔◌}
 use Rattle.std.specs.Prelude.{slice_get, Contains, IfSome, MatchOption}
 use Rattle.std.proofs.lemmas.List.Elements.{All-contains}
 use Rattle.av_tree.specs.Points.{Point}
@@ -28,7 +28,7 @@ use Rattle.av_space.proofs.SiteLinks.{to_tapped}
 use Rattle.av_space.proofs.SpotPlaces.{IsPlaceBy, place_known, place_read, tap_site}
 use Rattle.av_space.proofs.Timely.{IsDeclaredRead, read_declared, IsNodeRead, read_node, computed_there}
 use Rattle.av_base.proofs.Among.{among_at}
-use Rattle.av_base.proofs.Lists.{some_is, there_is}
+use Rattle.av_base.proofs.Lists.{there_is}
 
 module _ (a : Array) (is : IsArray a) (at : Spot) (spot : IsSpot a at) where
   abbrev s : FlatSystem

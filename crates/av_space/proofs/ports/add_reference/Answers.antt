@@ -15,15 +15,15 @@ use Rattle.av_space.proofs.Fed.{pass_site, next_site}
 use Rattle.av_space.proofs.PieceParts.{var_there, var_is, reference_there, reads_other, not_input, site_is}
 use Rattle.av_space.proofs.ports.add_reference.Goals as goal
 
-pub bounds-as_slice-read : goal.bounds-as_slice-read
-bounds-as_slice-read c =
+pub bounds-as_slice-read-inside : goal.bounds-as_slice-read-inside
+bounds-as_slice-read-inside c =
     let part = subst (λ (r : Reference). IsPart c.args.at.now c.args.number (reference r.place r.map)) (sym c.read.view_is) c.requires.part in
     let l = var_there c.args.at.now c.args.number c.read.inside.var c.read.inside.map.now part in
     let e = ap (λ (xs : List Var). length xs) (c.as_slice.ensures ∙ ap (λ (t : Timed). t.flat.vars) (c.system-timed.ensures ∙ c.timed-nodes.ensures.is)) in
     omega (arith, l, e)
 
-pub offset_bounds-as_slice-read : goal.offset_bounds-as_slice-read
-offset_bounds-as_slice-read c = let within = bounds-as_slice-read c in omega arith
+pub offset_bounds-as_slice-read-inside : goal.offset_bounds-as_slice-read-inside
+offset_bounds-as_slice-read-inside c = let within = bounds-as_slice-read-inside c in omega arith
 
 pub returns-then-is_computed : goal.returns-then-is_computed
 returns-then-is_computed c =
