@@ -1,12 +1,11 @@
 -- All nodes together as a component: their numbers are their places.
-use Rattle.std.proofs.Common.{◌≡◌, ℕ, zero, suc, ◌+◌, ◌<◌, ◌≤◌, Bool, true, false, cond, List, [], ◌∷◌, ◌++◌, length, take, get_or, add-one, sym, ap, ap₂, subst, ◌∙◌, arith, zero-add, add-zero, All}
-use Rattle.std.specs.Prelude.{AllPairs, filter}
+use Rattle.std.proofs.Common.{◌≡◌, ℕ, zero, suc, ◌+◌, ◌<◌, ◌≤◌, List, [], ◌∷◌, ◌++◌, length, get_or, add-one, sym, ap, subst, ◌∙◌, arith, zero-add, All}
+use Rattle.std.specs.Prelude.{AllPairs}
 use Rattle.std.specs.List.{range_with_len}
 use Rattle.std.proofs.lemmas.List.FromFn.{length-range_with_len, get_or-range_with_len}
-use Rattle.std.proofs.lemmas.List.Filters.{length-filter_more}
 use Rattle.av_tree.specs.Points.{Point}
-use Rattle.av_flat.specs.Trees.{Variable, FlatSystem}
-use Rattle.av_flat.specs.Nodes.{is_node, nodes}
+use Rattle.av_flat.specs.Trees.{FlatSystem}
+use Rattle.av_flat.specs.Nodes.{nodes}
 use Rattle.av_sched.specs.Offsets.{part}
 use Rattle.av_sched.specs.Choices.{AreLinearParts}
 use Rattle.av_sched.specs.Parts.{Agrees}
@@ -37,30 +36,6 @@ all_apart s = λ i j d l m.
 pub range_push : (a n j : ℕ) → a + n ≡ j → range_with_len a (n + 1) ≡ range_with_len a n ++ j ∷ []
 range_push a zero j e = ap (λ i. i ∷ []) (let q : a ≡ j = omega (arith, e) in q)
 range_push a (suc n) j e = rw add-one (ap (λ xs. a ∷ xs) (subst (λ (k : ℕ). range_with_len (a + 1) k ≡ range_with_len (a + 1) n ++ j ∷ []) (add-one n) (range_push (a + 1) n j (omega (arith, e)))))
-
--- ---- numbering the nodes among variables
-
-abbrev one_if : Bool → ℕ
-one_if b = cond b 1 0
-
--- a variable that is a node takes the next number
-pub numbered_more : (vs : List Variable) (k : ℕ) (v : Variable) (ns : List ℕ) → k < length vs → v ≡ get_or vs k v → is_node v ≡ true → ns ≡ range_with_len 0 (length (filter is_node (take k vs)))
-    → ns ++ length ns ∷ [] ≡ range_with_len 0 (length (filter is_node (take (k + 1) vs)))
-numbered_more vs k v ns l is node e =
-    let n = length (filter is_node (take k vs)) in
-    let one : one_if (is_node (get_or vs k v)) ≡ 1 = ap (λ (w : Variable). one_if (is_node w)) (sym is) ∙ ap one_if node in
-    let more : length (filter is_node (take (k + 1) vs)) ≡ n + 1 = length-filter_more is_node vs k v l ∙ ap (λ (m : ℕ). n + m) one in
-    let many : length ns ≡ n = ap length e ∙ length-range_with_len 0 n in
-    ap₂ (λ (xs : List ℕ) (m : ℕ). xs ++ m ∷ []) e many ∙ sym (range_push 0 n n (zero-add n)) ∙ ap (range_with_len 0) (sym more)
-
--- another one takes none
-pub numbered_same : (vs : List Variable) (k : ℕ) (v : Variable) (ns : List ℕ) → k < length vs → v ≡ get_or vs k v → is_node v ≡ false → ns ≡ range_with_len 0 (length (filter is_node (take k vs)))
-    → ns ≡ range_with_len 0 (length (filter is_node (take (k + 1) vs)))
-numbered_same vs k v ns l is other e =
-    let n = length (filter is_node (take k vs)) in
-    let none : one_if (is_node (get_or vs k v)) ≡ 0 = ap (λ (w : Variable). one_if (is_node w)) (sym is) ∙ ap one_if other in
-    let same : length (filter is_node (take (k + 1) vs)) ≡ n = length-filter_more is_node vs k v l ∙ ap (λ (m : ℕ). n + m) none ∙ add-zero n in
-    e ∙ ap (range_with_len 0) (sym same)
 
 -- ---- choices
 

@@ -6,7 +6,7 @@ ghost use Rattle.av_best.specs.Least.{all_nodes as every_node};
 ghost use Rattle.av_best.specs.BestFaults.{joint_candidates};
 
 use av_base::Memory;
-use av_flat::{Flat, Reach};
+use av_flat::{Flat, Nodes, Reach};
 use av_sched::{candidates_of, dimensions};
 use std::alloc::Global;
 
@@ -15,12 +15,10 @@ pub(crate) fn all_nodes(alloc: Global, flat: &Flat) -> Result<Vec<u32>, Memory>
     ensures are { IfOk result (λ nodes. nodes.items ≡ every_node (view_system flat.now)) }
     ensures few { IfOk result (λ nodes. length nodes.items ≤ 1073741824) }
 {
-    let vars = flat.vars.as_slice();
+    let found = Nodes::new(alloc, flat)?;
     let mut nodes: Vec<u32> = Vec::new(alloc);
-    for place in 0..flat.vars.len() {
-        if vars[place].is_node() {
-            nodes.push(nodes.len() as u32)?;
-        }
+    for node in 0..found.len() {
+        nodes.push(node as u32)?;
     }
     Ok(nodes)
 }

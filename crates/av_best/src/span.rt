@@ -14,7 +14,7 @@ ghost use Rattle.av_best.specs.inner.Spans.{IsSpanOver, ArePointsOf, AreSpansAt,
 use av_base::{List, Memory, Point};
 use av_depend::generating_points;
 use av_elim::box_of;
-use av_flat::{Flat, place_of};
+use av_flat::{Flat, variable_of};
 use av_sched::products;
 use std::alloc::Global;
 
@@ -49,10 +49,9 @@ pub(crate) fn points_of(alloc: Global, flat: &Flat, node: usize) -> Result<List<
     requires within { node < length (nodes (view_system flat.now)) }
     ensures { IfOk result (ArePointsOf (view_system flat.now) node) }
 {
-    let vars = flat.vars.as_slice();
-    let domain = &vars[place_of(flat, node)].domain;
-    match box_of(alloc, domain)? {
-        Some(extent) => generating_points(alloc, domain, &extent),
+    let var = variable_of(flat, node);
+    match box_of(alloc, &var.domain)? {
+        Some(extent) => generating_points(alloc, &var.domain, &extent),
         None => unreachable!(),
     }
 }

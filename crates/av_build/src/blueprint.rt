@@ -18,6 +18,13 @@ pub(crate) struct HelperPlan {
     pub(crate) site: usize,
 }
 
+/// A helper on a cell, by its number.
+#[derive(Clone, Copy)]
+pub(crate) struct HelperOn {
+    pub(crate) cell: usize,
+    pub(crate) helper: usize,
+}
+
 /// A lane of a cell: that of its value, or of the word of a helper.
 #[derive(Clone, Copy, Debug)]
 pub(crate) struct LanePlan {
@@ -69,15 +76,15 @@ impl Blueprint<'_> {
     }
 
     /// The lane of a helper's word on a cell.
-    pub(crate) fn helper_lane(&self, cell: usize, helper: usize) -> usize
+    pub(crate) fn helper_lane(&self, on: HelperOn) -> usize
         requires blueprint { IsBlueprint self.now }
-        requires helper { HasHelper self.now cell helper }
-        ensures { result ≡ (lanes_of self.now.cells).of_helper helper cell }
+        requires helper { HasHelper self.now on.cell on.helper }
+        ensures { result ≡ (lanes_of self.now.cells).of_helper on.helper on.cell }
     {
-        let own = self.cells.as_slice()[cell].lanes;
+        let own = self.cells.as_slice()[on.cell].lanes;
         let lanes = self.lanes.as_slice();
         for number in own.first..own.value {
-            if is_helper(&lanes[number], helper) {
+            if is_helper(&lanes[number], on.helper) {
                 return number;
             }
         }

@@ -13,7 +13,7 @@ ghost use Rattle.av_build.specs.inner.Orders.{IsInOrder, AreMoments};
 ghost use Rattle.av_build.specs.inner.Programmed.{Always};
 ghost use Rattle.av_build.specs.inner.Sources.{IsOwnSource, AddsPipelineMoment, ArePipelineMomentsTo};
 
-use crate::blueprint::Blueprint;
+use crate::blueprint::{Blueprint, HelperOn};
 use crate::windows::CounterMark;
 use av_base::{List, Memory, Width};
 use av_kinds::{Counter, Inlet, ProgramSite, Selection, WordSource};
@@ -159,7 +159,10 @@ impl Blueprint<'_> {
             pipeline.now.number reading.producer) reading.delay }
     {
         WordSource::Line {
-            lane: self.helper_lane(reading.producer as usize, pipeline.number),
+            lane: self.helper_lane(HelperOn {
+                cell: reading.producer as usize,
+                helper: pipeline.number,
+            }),
             delay: reading.delay,
         }
     }

@@ -134,14 +134,12 @@ impl<'a> Blueprint<'a> {
     fn pipeline_modes(
         &self,
         alloc: Global,
-        flat: &Flat,
         counter: Counter,
         spot: &Spot<'a>,
         helper: HelperPlan,
     ) -> Result<List<Mode<'a>>, Memory>
         requires blueprint { IsBlueprint self.now }
         requires counter { IsCounted self.now.array counter }
-        requires flat { flat.now ≡ self.now.array.timed.now.flat }
         requires helper { IsHelperOn self.now spot.now helper }
         ensures { IfOk result (λ modes.
             AreHelperModes self.now counter spot.now helper (map mode_of modes)) }
@@ -154,21 +152,20 @@ impl<'a> Blueprint<'a> {
         let order = in_order(alloc, spot.slots.as_slice(), counter)?;
         let found = self.pipeline_moments(alloc, counter, order.as_slice(), spot, place, pipeline)?;
         let read = &place.place;
-        helper_modes(alloc, flat, spot.var.width, read.tree, &found)
+        let timed = self.array.system();
+        helper_modes(alloc, &timed.flat, spot.var.width, read.tree, &found)
     }
 
     /// The lane of the word of a helper on a cell.
     pub(crate) fn pipeline(
         &self,
         alloc: Global,
-        flat: &Flat,
         counter: Counter,
         cell: usize,
         helper: HelperPlan,
     ) -> Result<Lane<'a>, Memory>
         requires blueprint { IsBlueprint self.now }
         requires counter { IsCounted self.now.array counter }
-        requires flat { flat.now ≡ self.now.array.timed.now.flat }
         requires helper { HasPlan self.now cell helper }
         requires ranks { length (helpers_of self.now.array) < 18446744073709551615 }
         ensures { IfOk result (λ lane.
@@ -180,7 +177,7 @@ impl<'a> Blueprint<'a> {
             home: cell as u32,
             rank: helper.number + 1,
             width: spot.var.width,
-            modes: self.pipeline_modes(alloc, flat, counter, &spot, helper)?,
+            modes: self.pipeline_modes(alloc, counter, &spot, helper)?,
             length: self.array.line_length(cell, Some(helper.number)),
         })
     }

@@ -85,32 +85,26 @@ fn reference_of<'a, 'b>(pieces: &'b Pieces<'a>, port: &InPort) -> &'b Site<'a>
 impl Blueprint<'_> {
     // The width of the words at a port. Its place is a reference, which has words of its own variable's width: that of the run is only what a
     // pick would be asked with.
-    fn port_width(&self, flat: &Flat, port: &InPort) -> Width
+    fn port_width(&self, port: &InPort) -> Width
         requires blueprint { IsBlueprint self.now }
-        requires flat { flat.now ≡ self.now.array.timed.now.flat }
         requires port { Contains self.now.array.cells.now.inputs port.now }
         ensures { IsPortWidth (seen self.now.array) port.now result }
     {
         let pieces = &self.cells.as_slice()[port.cell as usize].pieces;
         let site = reference_of(pieces, port);
-        width_read(flat, flat.width, site.place.tree)
+        let timed = self.array.system();
+        width_read(&timed.flat, timed.flat.width, site.place.tree)
     }
 
     /// The widths of the input ports: those of the variables that are read there.
-    pub(crate) fn port_widths(
-        &self,
-        alloc: Global,
-        flat: &Flat,
-        ports: &[InPort],
-    ) -> Result<List<Width>, Memory>
+    pub(crate) fn port_widths(&self, alloc: Global, ports: &[InPort]) -> Result<List<Width>, Memory>
         requires blueprint { IsBlueprint self.now }
-        requires flat { flat.now ≡ self.now.array.timed.now.flat }
         requires ports { ports.now ≡ self.now.array.cells.now.inputs }
         ensures { IfOk result (HasPorts (seen self.now.array)) }
     {
         let mut widths = List::new(alloc);
         for port in ports {
-            widths.push(self.port_width(flat, port))?;
+            widths.push(self.port_width(port))?;
         }
         Ok(widths)
     }

@@ -16,7 +16,7 @@ ghost use Rattle.av_build.specs.inner.Built.{IsProgrammed};
 ghost use Rattle.av_build.specs.inner.Lanes.{IsPipeSite, IsValueSite, IsValueWork, HasPiece, IsValueMode, IsPlanOn, IsBuiltBy, AreBuilt};
 ghost use Rattle.av_build.specs.inner.Orders.{IsInOrder};
 
-use crate::blueprint::{Blueprint, LanePlan, plan_lanes};
+use crate::blueprint::{Blueprint, HelperOn, LanePlan, plan_lanes};
 use crate::moments::site;
 use crate::order::in_order;
 use crate::ports::{inlet_of, width_read};
@@ -24,10 +24,17 @@ use crate::sorting::kinds_of;
 use crate::spots::planned_spot;
 use crate::windows::{marks, windows};
 use av_base::{List, Memory};
-use av_flat::{Flat, Timed};
+use av_flat::Timed;
 use av_kinds::{CellLanes, Counter, Inlet, Lane, Mode, Program, ProgramSite, WordSource, Work};
 use av_space::{Array, Cells, Layout, Site, Spot};
 use std::alloc::Global;
+
+// A piece on a cell, by its number among those there.
+#[derive(Clone, Copy)]
+struct PieceOn {
+    cell: usize,
+    number: usize,
+}
 
 impl<'a> Blueprint<'a> {
     // The word of a helper's lane on its own cell.
@@ -36,7 +43,10 @@ impl<'a> Blueprint<'a> {
         requires helper { HasHelper self.now spot.now.cell helper }
         ensures { IsPipeSite self.now (spot_of spot.now) helper result }
     {
-        let lane = self.helper_lane(spot.cell, helper);
+        let lane = self.helper_lane(HelperOn {
+            cell: spot.cell,
+            helper,
+        });
         let first = self.cells.as_slice()[spot.cell].lanes.first;
         ProgramSite {
             inlet: Inlet::Pipe(lane - first),
@@ -50,7 +60,6 @@ impl<'a> Blueprint<'a> {
     fn value_site(
         &self,
         alloc: Global,
-        flat: &Flat,
         counter: Counter,
         order: &[usize],
         spot: &Spot<'a>,
@@ -58,7 +67,6 @@ impl<'a> Blueprint<'a> {
     ) -> Result<ProgramSite, Memory>
         requires blueprint { IsBlueprint self.now }
         requires counter { IsCounted self.now.array counter }
-        requires flat { flat.now ≡ self.now.array.timed.now.flat }
         requires place { IsPlaceOn self.now spot.now place.now }
         requires order { IsInOrder (count_in counter) spot.now.slots order.now }
         ensures { IfOk result (IsValueSite self.now counter spot.now place.now) }
@@ -69,29 +77,33 @@ impl<'a> Blueprint<'a> {
         let moments = self.moments(alloc, counter, order, spot, place)?;
         let read = &place.place;
         let tree = read.tree;
-        let width = width_read(flat, spot.var.width, tree);
-        site(alloc, inlet_of(flat, tree), width, moments.as_slice())
+        let timed = self.array.system();
+        let width = width_read(&timed.flat, spot.var.width, tree);
+        site(
+            alloc,
+            inlet_of(&timed.flat, tree),
+            width,
+            moments.as_slice(),
+        )
     }
 
     // A piece on a cell, with what brings the word of each of its places that read.
     fn work(
         &self,
         alloc: Global,
-        flat: &Flat,
         counter: Counter,
         spot: &Spot<'a>,
         places: &[Site<'a>],
     ) -> Result<Work<'a>, Memory>
         requires blueprint { IsBlueprint self.now }
         requires counter { IsCounted self.now.array counter }
-        requires flat { flat.now ≡ self.now.array.timed.now.flat }
         requires spot { IsSpotOn self.now spot.now places.now }
         ensures { IfOk result (λ work. IsValueWork self.now counter spot.now (work_of work)) }
     {
         let order = in_order(alloc, spot.slots.as_slice(), counter)?;
         let mut sites = List::new(alloc);
         for place in places {
-            sites.push(self.value_site(alloc, flat, counter, order.as_slice(), spot, place)?)?;
+            sites.push(self.value_site(alloc, counter, order.as_slice(), spot, place)?)?;
         }
         Ok(Work {
             sites,
@@ -99,45 +111,31 @@ impl<'a> Blueprint<'a> {
         })
     }
 
-    // The piece with this number among those on a cell, in the windows of its computations.
-    fn value_mode(
-        &self,
-        alloc: Global,
-        flat: &Flat,
-        counter: Counter,
-        cell: usize,
-        number: usize,
-    ) -> Result<Mode<'a>, Memory>
+    // A piece on a cell, in the windows of its computations.
+    fn value_mode(&self, alloc: Global, counter: Counter, on: PieceOn) -> Result<Mode<'a>, Memory>
         requires blueprint { IsBlueprint self.now }
         requires counter { IsCounted self.now.array counter }
-        requires flat { flat.now ≡ self.now.array.timed.now.flat }
-        requires piece { HasPiece self.now cell number }
-        ensures { IfOk result (λ mode. IsValueMode self.now counter cell number (mode_of mode)) }
+        requires piece { HasPiece self.now on.cell on.number }
+        ensures { IfOk result (λ mode.
+            IsValueMode self.now counter on.cell on.number (mode_of mode)) }
     {
-        let pieces = &self.cells.as_slice()[cell].pieces;
-        let plan = &pieces.spots.as_slice()[number];
+        let pieces = &self.cells.as_slice()[on.cell].pieces;
+        let plan = &pieces.spots.as_slice()[on.number];
         let spot = planned_spot(alloc, &self.array, plan)?;
-        let places = pieces.sites.as_slice()[number].as_slice();
-        let all = self.array.slots(cell);
+        let places = pieces.sites.as_slice()[on.number].as_slice();
+        let all = self.array.slots(on.cell);
         let order = in_order(alloc, all, counter)?;
         let marks = marks(alloc, counter, order.as_slice(), all, &spot.piece.domain)?;
         Ok(Mode {
             windows: windows(alloc, marks.as_slice())?,
-            work: self.work(alloc, flat, counter, &spot, places)?,
+            work: self.work(alloc, counter, &spot, places)?,
         })
     }
 
     // The lane of the value of a cell: its pieces by their numbers.
-    fn value(
-        &self,
-        alloc: Global,
-        flat: &Flat,
-        counter: Counter,
-        cell: usize,
-    ) -> Result<Lane<'a>, Memory>
+    fn value(&self, alloc: Global, counter: Counter, cell: usize) -> Result<Lane<'a>, Memory>
         requires blueprint { IsBlueprint self.now }
         requires counter { IsCounted self.now.array counter }
-        requires flat { flat.now ≡ self.now.array.timed.now.flat }
         requires cell { cell < length (cells_of self.now.array) }
         ensures { IfOk result (λ lane. IsBuiltBy self.now counter cell None (lane_of lane)) }
     {
@@ -145,7 +143,8 @@ impl<'a> Blueprint<'a> {
         let width = spots[0].var.width;
         let mut modes = List::new(alloc);
         for number in 0..spots.len() {
-            modes.push(self.value_mode(alloc, flat, counter, cell, number)?)?;
+            let on = PieceOn { cell, number };
+            modes.push(self.value_mode(alloc, counter, on)?)?;
         }
         Ok(Lane {
             home: cell as u32,
@@ -157,38 +156,30 @@ impl<'a> Blueprint<'a> {
     }
 
     // The lane of a plan.
-    fn lane(
-        &self,
-        alloc: Global,
-        flat: &Flat,
-        counter: Counter,
-        plan: &LanePlan,
-    ) -> Result<Lane<'a>, Memory>
+    fn lane(&self, alloc: Global, counter: Counter, plan: &LanePlan) -> Result<Lane<'a>, Memory>
         requires blueprint { IsBlueprint self.now }
         requires counter { IsCounted self.now.array counter }
-        requires flat { flat.now ≡ self.now.array.timed.now.flat }
         requires plan { IsPlanOn self.now plan.now.cell plan.now.helper }
         requires ranks { length (helpers_of self.now.array) < 18446744073709551615 }
         ensures { IfOk result (λ lane.
             IsBuiltBy self.now counter plan.now.cell plan.now.helper (lane_of lane)) }
     {
         match plan.helper {
-            Some(helper) => self.pipeline(alloc, flat, counter, plan.cell, helper),
-            None => self.value(alloc, flat, counter, plan.cell),
+            Some(helper) => self.pipeline(alloc, counter, plan.cell, helper),
+            None => self.value(alloc, counter, plan.cell),
         }
     }
 
     // All lanes, in the order of their plans.
-    fn built(&self, alloc: Global, flat: &Flat, counter: Counter) -> Result<List<Lane<'a>>, Memory>
+    fn built(&self, alloc: Global, counter: Counter) -> Result<List<Lane<'a>>, Memory>
         requires blueprint { IsBlueprint self.now }
         requires counter { IsCounted self.now.array counter }
-        requires flat { flat.now ≡ self.now.array.timed.now.flat }
         requires ranks { length (helpers_of self.now.array) < 18446744073709551615 }
         ensures { IfOk result (AreBuilt self.now counter self.now.lanes) }
     {
         let mut lanes = List::new(alloc);
         for plan in self.lanes.as_slice() {
-            lanes.push(self.lane(alloc, flat, counter, plan)?)?;
+            lanes.push(self.lane(alloc, counter, plan)?)?;
         }
         Ok(lanes)
     }
@@ -234,9 +225,8 @@ fn from_blueprint<'a>(
     ensures { IfOk result (λ program.
         IsProgrammed timed.now cells.now counter (program_of program)) }
 {
-    let flat = &timed.flat;
-    let inputs = blueprint.port_widths(alloc, flat, cells.inputs.as_slice())?;
-    let lanes = blueprint.built(alloc, flat, counter)?;
+    let inputs = blueprint.port_widths(alloc, cells.inputs.as_slice())?;
+    let lanes = blueprint.built(alloc, counter)?;
     let own = blueprint.cell_lanes(alloc)?;
     let kinds = kinds_of(alloc, blueprint.cells.as_slice())?;
     let outputs = blueprint.values(alloc, cells.outputs.as_slice())?;

@@ -17,8 +17,8 @@ const MOST_BYTES: usize = 1000;
 
 // Whether the lines were read, or their fault with its line.
 #[derive(Clone, Copy, Debug, PartialEq, Eq)]
-enum Outcome {
-    Read,
+enum StimulusRead {
+    Whole,
     Syntax(u32),
     Unknown(u32),
     Outside(u32),
@@ -27,15 +27,15 @@ enum Outcome {
     Memory,
 }
 
-fn outcome_of(answer: &Result<Stimulus, DataFault>) -> Outcome {
+fn told(answer: &Result<Stimulus, DataFault>) -> StimulusRead {
     match answer {
-        Ok(_) => Outcome::Read,
-        Err(DataFault::DataSyntax(line)) => Outcome::Syntax(*line),
-        Err(DataFault::DataUnknown(line)) => Outcome::Unknown(*line),
-        Err(DataFault::DataOutside(line)) => Outcome::Outside(*line),
-        Err(DataFault::DataTwice(line)) => Outcome::Twice(*line),
-        Err(DataFault::DataMissing(_, _)) => Outcome::Missing,
-        Err(DataFault::Memory) => Outcome::Memory,
+        Ok(_) => StimulusRead::Whole,
+        Err(DataFault::DataSyntax(line)) => StimulusRead::Syntax(*line),
+        Err(DataFault::DataUnknown(line)) => StimulusRead::Unknown(*line),
+        Err(DataFault::DataOutside(line)) => StimulusRead::Outside(*line),
+        Err(DataFault::DataTwice(line)) => StimulusRead::Twice(*line),
+        Err(DataFault::DataMissing(_, _)) => StimulusRead::Missing,
+        Err(DataFault::Memory) => StimulusRead::Memory,
     }
 }
 
@@ -100,16 +100,16 @@ const READ: [(&str, u32, &[Given]); 5] = [
     ),
 ];
 
-const REFUSED: [(&str, Outcome); 9] = [
-    ("", Outcome::Syntax(7)),
-    ("\n\n", Outcome::Syntax(9)),
-    ("cycles 4097\n", Outcome::Syntax(7)),
-    ("cycles 2\ncycles 2\n", Outcome::Syntax(8)),
-    ("cycles 2\nat 0 clk 0\n", Outcome::Unknown(8)),
-    ("cycles 2\nat 0 a 256\n", Outcome::Outside(8)),
-    ("cycles 2\nat 2 a 0\n", Outcome::Outside(8)),
-    ("cycles 2\n\nat 0 a 1\nat 0 a 1\n", Outcome::Twice(10)),
-    ("cycles 2\nat 0 o 1\nat 9 a 1\n", Outcome::Unknown(8)),
+const REFUSED: [(&str, StimulusRead); 9] = [
+    ("", StimulusRead::Syntax(7)),
+    ("\n\n", StimulusRead::Syntax(9)),
+    ("cycles 4097\n", StimulusRead::Syntax(7)),
+    ("cycles 2\ncycles 2\n", StimulusRead::Syntax(8)),
+    ("cycles 2\nat 0 clk 0\n", StimulusRead::Unknown(8)),
+    ("cycles 2\nat 0 a 256\n", StimulusRead::Outside(8)),
+    ("cycles 2\nat 2 a 0\n", StimulusRead::Outside(8)),
+    ("cycles 2\n\nat 0 a 1\nat 0 a 1\n", StimulusRead::Twice(10)),
+    ("cycles 2\nat 0 o 1\nat 9 a 1\n", StimulusRead::Unknown(8)),
 ];
 
 #[test]
@@ -123,12 +123,12 @@ fn lines_give_values_in_the_order_of_cycle_and_port(rt: HostRuntime) -> Result<(
     };
     for (lines, cycles, values) in READ {
         let answer = read(alloc, lines, &design.module);
-        assert_eq!(rt; outcome_of(&answer), Outcome::Read);
+        assert_eq!(rt; told(&answer), StimulusRead::Whole);
         assert!(rt; is_read(&answer, cycles, values));
     }
     for (lines, fault) in REFUSED {
         let answer = read(alloc, lines, &design.module);
-        assert_eq!(rt; outcome_of(&answer), fault);
+        assert_eq!(rt; told(&answer), fault);
     }
     Ok(())
 }

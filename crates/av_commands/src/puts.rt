@@ -108,6 +108,22 @@ pub(crate) fn put_data_refusal<K: Sink>(sink: &mut K, fault: &DataFault) -> Stat
     }
 }
 
+// Adds the line of a refusal that the caller owns.
+fn put_refusal<K: Sink>(sink: &mut K, refusal: &Refusal) -> Status
+    ensures memory { refusal.now ≡ alpha_refusal.Memory
+        → (result ≡ Status.Memory) × ((K.state sink.new).held ≡ (K.state sink.old).held) }
+    ensures refused { (refusal.now ≡ alpha_refusal.Memory → ⊥) → IsPut (K.state sink.old)
+        (K.state sink.new) (refusal_line (alpha_reason refusal.now)) Status.Refused result }
+{
+    match refusal {
+        Refusal::Memory => Status::Memory,
+        _ => match write_alpha_refusal(refusal, sink) {
+            Ok(()) => Status::Refused,
+            Err(_) => Status::WriteFault,
+        },
+    }
+}
+
 /// Adds the line of the refusal of an Alpha text. Out of memory has no line: the status tells it.
 pub(crate) fn put_alpha_refusal<K: Sink>(sink: &mut K, refusal: Refusal) -> Status
     ensures memory { refusal ≡ alpha_refusal.Memory
@@ -115,13 +131,7 @@ pub(crate) fn put_alpha_refusal<K: Sink>(sink: &mut K, refusal: Refusal) -> Stat
     ensures refused { (refusal ≡ alpha_refusal.Memory → ⊥) → IsPut (K.state sink.old)
         (K.state sink.new) (refusal_line (alpha_reason refusal)) Status.Refused result }
 {
-    match &refusal {
-        Refusal::Memory => Status::Memory,
-        _ => match write_alpha_refusal(&refusal, sink) {
-            Ok(()) => Status::Refused,
-            Err(_) => Status::WriteFault,
-        },
-    }
+    put_refusal(sink, &refusal)
 }
 
 /// Adds the lines of the schedule, and its length.

@@ -1,14 +1,14 @@
-ghost use Rattle.std.specs.Prelude.{◌≡◌, ◌≤◌, ◌<◌, ◌++◌, length, All, decimal, IsErr, OnOk, OnErr, Some, slice_get};
+ghost use Rattle.std.specs.Prelude.{◌≤◌, ◌<◌, ◌++◌, length, All, decimal, IsErr, OnOk, OnErr};
 ghost use Rattle.std.specs.List.{flat_map};
 ghost use Rattle.av_base.specs.Outside.{Adds, AddsPrefix, HasRisen};
 ghost use Rattle.av_page.specs.Pages.{Puts};
-ghost use Rattle.av_flat.specs.Trees.{view_variable, view_system};
+ghost use Rattle.av_flat.specs.Trees.{view_system};
 ghost use Rattle.av_flat.specs.Nodes.{nodes};
 ghost use Rattle.av_space.specs.Arrays.{IsArrayOf};
 ghost use Rattle.av_data.specs.Tables.{named_cell_line, cell_lines, listed_line, totals_line, table_text};
 
 use av_base::{Sink, WriteFault};
-use av_flat::{Flat, Timed, Var, place_of};
+use av_flat::{Flat, Timed, Var, variable_of};
 use av_net::Entry;
 use av_page::Page;
 use av_space::{Cell, Cells};
@@ -42,16 +42,6 @@ fn write_lines<K: Sink>(page: &mut Page, sink: &mut K, timed: &Timed, cells: &Ce
     write_totals(page, sink, cells);
 }
 
-// The variable of a node.
-fn node_at(flat: &Flat, node: u32) -> &Var
-    requires { node < length (nodes (view_system flat.now)) }
-    ensures { slice_get (nodes (view_system flat.now)) node ≡ Some (view_variable result.now) }
-{
-    let place = place_of(flat, node as usize);
-    let vars = flat.vars.as_slice();
-    &vars[place]
-}
-
 // A line for each cell.
 fn write_cells<K: Sink>(page: &mut Page, sink: &mut K, flat: &Flat, cells: &[Cell])
     requires { All (λ c. c.node < length (nodes (view_system flat.now))) cells.now }
@@ -59,7 +49,8 @@ fn write_cells<K: Sink>(page: &mut Page, sink: &mut K, flat: &Flat, cells: &[Cel
         (cell_lines (nodes (view_system flat.now)) 0 cells.now) }
 {
     for k in 0..cells.len() {
-        write_cell(page, sink, node_at(flat, cells[k].node), k, &cells[k]);
+        let var = variable_of(flat, cells[k].node as usize);
+        write_cell(page, sink, var, k, &cells[k]);
     }
 }
 

@@ -19,17 +19,19 @@ use av_flat::{Choice, Flat, Nodes, ReadingPlace, Tree, copy_map, tree_places};
 use av_poly::{Bounds, Poly, copy_set};
 use std::alloc::Global;
 
-/// A set of points at which something is read, with all of its points in order, and those of them that are generators.
+/// A set of points at which a node reads something, with all of its points in order, and those of them that are generators.
 #[derive(Drop)]
 pub(crate) struct ReadingSet {
+    pub(crate) node: u32,
     pub(crate) set: Poly,
     pub(crate) points: List<Point>,
     pub(crate) generators: List<Point>,
 }
 
-/// The reading set of a piece with this domain.
+/// The reading set of a piece of the node with this domain.
 pub(crate) fn reading_set(
     alloc: Global,
+    node: u32,
     domain: &Poly,
     extent: &Bounds,
 ) -> Result<ReadingSet, Memory>
@@ -38,12 +40,14 @@ pub(crate) fn reading_set(
     requires high { AtMost 4095 extent.now.high }
     requires inside { IsInside domain.now.dim extent.now domain.now }
     ensures reading { IfOk result IsReadingSet }
+    ensures node { IfOk result (λ to. to.node ≡ node) }
     ensures set { IfOk result (λ to. to.set ≡ domain.now) }
 {
     let points = all_points(alloc, domain, extent)?;
     let generators = generators(alloc, domain, points.as_slice())?;
     let set = copy_set(alloc, domain)?;
     Ok(ReadingSet {
+        node,
         set,
         points,
         generators,
@@ -55,12 +59,14 @@ fn narrowed(alloc: Global, reading: &ReadingSet, set: &Poly) -> Result<ReadingSe
     requires reading { IsReadingSet reading.now }
     requires dim { set.now.dim ≡ reading.now.set.dim }
     ensures reading { IfOk result IsReadingSet }
+    ensures node { IfOk result (λ to. to.node ≡ reading.now.node) }
     ensures set { IfOk result (λ to. to.set ≡ both reading.now.set set.now) }
 {
     let points = points_within(alloc, set, reading.points.as_slice())?;
     let set = reading.set.meet(alloc, set)?;
     let generators = generators(alloc, &set, points.as_slice())?;
     Ok(ReadingSet {
+        node: reading.node,
         set,
         points,
         generators,
@@ -92,7 +98,6 @@ fn copy_points(alloc: Global, points: &[Point]) -> Result<List<Point>, Memory>
 fn add_site(
     alloc: Global,
     nodes: &Nodes<'_>,
-    node: u32,
     place: u32,
     map: &Map,
     reading: &ReadingSet,
@@ -100,7 +105,7 @@ fn add_site(
 ) -> Result<(), Memory>
     requires reading { IsReadingSet reading.now }
     ensures { OnOk result (HasAdded (view_system nodes.now)
-        (site_at node place map.now reading.now.set ∷ []) edges.old edges.new) }
+        (site_at reading.now.node place map.now reading.now.set ∷ []) edges.old edges.new) }
 {
     if reading.points.as_slice().is_empty() {
         return Ok(());
@@ -109,7 +114,7 @@ fn add_site(
         return Ok(());
     }
     let edge = Edge {
-        consumer: node,
+        consumer: reading.node,
         producer: nodes.number(place as usize) as u32,
         map: copy_map(map),
         points: copy_points(alloc, reading.generators.as_slice())?,
@@ -121,7 +126,6 @@ fn add_site(
 fn add_choices(
     alloc: Global,
     nodes: &Nodes<'_>,
-    node: u32,
     place: u32,
     choices: &[Choice],
     reading: &ReadingSet,
@@ -130,11 +134,12 @@ fn add_choices(
     requires reading { IsReadingSet reading.now }
     requires dims { All (λ c. c.set.dim ≡ reading.now.set.dim) choices.now }
     ensures { OnOk result (HasAdded (view_system nodes.now)
-        (map (site_of node place reading.now.set) choices.now) edges.old edges.new) }
+        (map (site_of reading.now.node place reading.now.set) choices.now)
+        edges.old edges.new) }
 {
     for choice in choices {
         let own = narrowed(alloc, reading, &choice.set)?;
-        add_site(alloc, nodes, node, place, &choice.map, &own, edges)?;
+        add_site(alloc, nodes, place, &choice.map, &own, edges)?;
     }
     Ok(())
 }
@@ -143,7 +148,6 @@ fn add_choices(
 fn add_place(
     alloc: Global,
     nodes: &Nodes<'_>,
-    node: u32,
     place: &ReadingPlace<'_>,
     reading: &ReadingSet,
     edges: &mut List<Edge>,
@@ -152,12 +156,12 @@ fn add_place(
     requires fits { Fits (signatures (view_system nodes.now)) reading.now.set.dim
         (view place.now.tree) }
     ensures { OnOk result (HasAdded (view_system nodes.now)
-        (sites_at node reading.now.set (view place.now.tree)) edges.old edges.new) }
+        (sites_at reading.now.node reading.now.set (view place.now.tree)) edges.old edges.new) }
 {
     match place.tree {
-        Tree::Ref { var, map } => add_site(alloc, nodes, node, *var, map, reading, edges),
+        Tree::Ref { var, map } => add_site(alloc, nodes, *var, map, reading, edges),
         Tree::Pick { var, choices, .. } => {
-            add_choices(alloc, nodes, node, *var, choices.as_slice(), reading, edges)
+            add_choices(alloc, nodes, *var, choices.as_slice(), reading, edges)
         }
         _ => Ok(()),
     }
@@ -167,7 +171,6 @@ fn add_place(
 pub(crate) fn add_tree(
     alloc: Global,
     nodes: &Nodes<'_>,
-    node: u32,
     tree: &Tree,
     reading: &ReadingSet,
     edges: &mut List<Edge>,
@@ -175,11 +178,11 @@ pub(crate) fn add_tree(
     requires reading { IsReadingSet reading.now }
     requires fits { Fits (signatures (view_system nodes.now)) reading.now.set.dim (view tree.now) }
     ensures { OnOk result (HasAdded (view_system nodes.now)
-        (sites_in node reading.now.set (view tree.now)) edges.old edges.new) }
+        (sites_in reading.now.node reading.now.set (view tree.now)) edges.old edges.new) }
 {
     let places = tree_places(alloc, 0, tree)?;
     for place in places.as_slice() {
-        add_place(alloc, nodes, node, place, reading, edges)?;
+        add_place(alloc, nodes, place, reading, edges)?;
     }
     Ok(())
 }

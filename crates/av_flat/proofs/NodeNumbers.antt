@@ -103,19 +103,15 @@ pub record IsNodeAt (s : FlatSystem) (n place : ℕ) : Type 0 where
   pub is : slice_get (nodes s) n ≡ Some variable
   pub is_variable : slice_get s.variables place ≡ Some variable
 
-pub node_at_place : (s : FlatSystem) (places : List ℕ) (n d : ℕ) → places ≡ places_of s → n < length places → IsNodeAt s n (get_or places n d)
-node_at_place s places n d e l =
-    let size : length places ≡ length (nodes s) = ap (λ (xs : List ℕ). length xs) e ∙ length-map-range_with_len (node_place s) 0 (length (nodes s)) in
-    let within : n < length (nodes s) = omega (arith, size, l) in
-    go (nodes s) refl within
+pub node_is_at : (s : FlatSystem) (n : ℕ) → n < length (nodes s) → IsNodeAt s n (node_place s n)
+node_is_at s n within = go (nodes s) refl
   where
-    go : (vs : List Variable) → vs ≡ nodes s → n < length (nodes s) → IsNodeAt s n (get_or places n d)
-    go [] f within = absurd (let k = ap (λ (xs : List Variable). length xs) f in omega (arith, k, within))
-    go (w ∷ vs) f within =
+    go : (vs : List Variable) → vs ≡ nodes s → IsNodeAt s n (node_place s n)
+    go [] f = absurd (let k = ap (λ (xs : List Variable). length xs) f in omega (arith, k, within))
+    go (w ∷ vs) f =
         let v = get_or (nodes s) n w in
         let is : slice_get (nodes s) n ≡ Some v = slice_get-get_or (nodes s) n w within in
-        let place : get_or places n d ≡ node_place s n = ap (λ (xs : List ℕ). get_or xs n d) e ∙ get_or-map-range_with_len (node_place s) 0 (length (nodes s)) n n d within (omega arith) in
-        record { variable = v; is = is; is_variable = ap (λ (k : ℕ). slice_get s.variables k) place ∙ node_variable s n v is }
+        record { variable = v; is = is; is_variable = node_variable s n v is }
 
 pub place_of_node : (s : FlatSystem) (n : ℕ) → n < length (nodes s) → slice_get (places_of s) n ≡ Some (node_place s n)
 place_of_node s n l =
@@ -124,6 +120,9 @@ place_of_node s n l =
 
 pub node_in_places : (s : FlatSystem) (places : List ℕ) (n : ℕ) → places ≡ places_of s → n < length (nodes s) → n < length places
 node_in_places s places n e l = slice_get_within places n (node_place s n) (ap (λ (xs : List ℕ). slice_get xs n) e ∙ place_of_node s n l)
+
+pub place_listed : (s : FlatSystem) (places : List ℕ) (n d : ℕ) → places ≡ places_of s → n < length (nodes s) → get_or places n d ≡ node_place s n
+place_listed s places n d e l = ap (λ (xs : List ℕ). get_or xs n d) e ∙ get_or-map-range_with_len (node_place s) 0 (length (nodes s)) n n d l (omega arith)
 
 pub place_in_numbers : (flat : Flat) (numbers : List ℕ) (place : ℕ) → numbers ≡ numbers_of (view_system flat) → place < length flat.vars → place < length numbers
 place_in_numbers flat numbers place e l =
@@ -149,13 +148,13 @@ pub chained_node : (s : FlatSystem) (n : ℕ) (v : Variable) → IsChained s →
 chained_node s n v chained e = all_at (IsChainedVariable s) (nodes s) n v (All-filter is_node (IsChainedVariable s) s.variables chained.each) e
 
 -- the place of a node is one of the variables
-pub node_listed : (flat : Flat) (vars : List Var) (places : List ℕ) (n : ℕ) → vars ≡ flat.vars → places ≡ places_of (view_system flat) → n < length (nodes (view_system flat)) → get_or places n 0 < length vars
-node_listed flat vars places n f e l =
-    let at = node_at_place (view_system flat) places n 0 e (node_in_places (view_system flat) places n e l) in
-    let k = slice_get_within (view_system flat).variables (get_or places n 0) at.variable at.is_variable in
+pub node_listed : (flat : Flat) (vars : List Var) (n place : ℕ) → vars ≡ flat.vars → place ≡ node_place (view_system flat) n → n < length (nodes (view_system flat)) → place < length vars
+node_listed flat vars n place f e l =
+    let at = node_is_at (view_system flat) n l in
+    let k = slice_get_within (view_system flat).variables (node_place (view_system flat) n) at.variable at.is_variable in
     let m = length-map flat.vars view_variable in
     let g = ap (λ (xs : List Var). length xs) f in
-    omega (arith, k, m, g)
+    omega (arith, k, m, g, e)
 
 -- ---- variables as they lie in memory
 

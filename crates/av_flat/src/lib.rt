@@ -21,7 +21,7 @@ pub use laws::{
     counted_pieces, counted_word, nodes_have_points, number_of_pieces, one_solution, one_word,
     points_of_sets, unhelped_systems_show_the_same, unreduced_is_chained, words_of_pieces,
 };
-pub use nodes::{Nodes, numbers, place_of, places};
+pub use nodes::{Nodes, variable_of};
 pub use pass::{Feeds, Meant, Pass};
 pub use quantity::Quantity;
 pub use sites::{ReadingPlace, Reference, piece_places, tree_places, tree_references};

@@ -2,15 +2,15 @@
 
 ghost use Rattle.std.specs.Prelude.{◌≡◌, ◌<◌, ◌≤◌, length, Some, slice_get, IfOk};
 ghost use Rattle.av_flat.specs.Trees.{view_system, view_variable};
-ghost use Rattle.av_flat.specs.Nodes.{nodes, number_at, places_of, numbers_of};
+ghost use Rattle.av_flat.specs.Nodes.{nodes, number_at, node_place, places_of, numbers_of};
 
 use crate::flat::{Flat, Var};
 use av_base::{List, Memory};
 use std::alloc::Global;
 use std::marker::Model;
 
-/// The place of each node among the variables.
-pub fn places(alloc: Global, flat: &Flat) -> Result<List<usize>, Memory>
+// The place of each node among the variables.
+fn places(alloc: Global, flat: &Flat) -> Result<List<usize>, Memory>
     ensures { IfOk result (λ to. to ≡ places_of (view_system flat.now)) }
 {
     let vars = flat.vars.as_slice();
@@ -24,8 +24,8 @@ pub fn places(alloc: Global, flat: &Flat) -> Result<List<usize>, Memory>
     Ok(to)
 }
 
-/// How many nodes stand before each variable.
-pub fn numbers(alloc: Global, flat: &Flat) -> Result<List<usize>, Memory>
+// How many nodes stand before each variable.
+fn numbers(alloc: Global, flat: &Flat) -> Result<List<usize>, Memory>
     ensures { IfOk result (λ to. to ≡ numbers_of (view_system flat.now)) }
 {
     let vars = flat.vars.as_slice();
@@ -40,8 +40,8 @@ pub fn numbers(alloc: Global, flat: &Flat) -> Result<List<usize>, Memory>
     Ok(to)
 }
 
-/// The place of a node among the variables, which is looked for without memory.
-pub fn place_of(flat: &Flat, node: usize) -> usize
+// The place of a node among the variables.
+fn place_of(flat: &Flat, node: usize) -> usize
     requires { node < length (nodes (view_system flat.now)) }
     ensures fits { result < length flat.now.vars }
     ensures is { slice_get (nodes (view_system flat.now)) node
@@ -59,6 +59,16 @@ pub fn place_of(flat: &Flat, node: usize) -> usize
         count += 1;
     }
     unreachable!()
+}
+
+/// The variable of a node, which is looked for without memory.
+pub fn variable_of(flat: &Flat, node: usize) -> &Var
+    requires { node < length (nodes (view_system flat.now)) }
+    ensures { slice_get (nodes (view_system flat.now)) node ≡ Some (view_variable result.now) }
+{
+    let place = place_of(flat, node);
+    let vars = flat.vars.as_slice();
+    &vars[place]
 }
 
 /// The nodes of a system, found once. Contracts see the system.
@@ -129,13 +139,21 @@ impl<'a> Nodes<'a> {
         self.numbers.as_slice()[place]
     }
 
+    /// The place of a node among the variables.
+    pub fn place(&self, node: usize) -> usize
+        requires { node < length (nodes (view_system self.now)) }
+        ensures { result ≡ node_place (view_system self.now) node }
+    {
+        self.places.as_slice()[node]
+    }
+
     /// The variable of a node.
     pub fn variable(&self, node: usize) -> &'a Var
         requires { node < length (nodes (view_system self.now)) }
         ensures { slice_get (nodes (view_system self.now)) node ≡ Some (view_variable result.now) }
     {
         let vars = self.flat.vars.as_slice();
-        let place = self.places.as_slice()[node];
+        let place = self.place(node);
         &vars[place]
     }
 }

@@ -13,25 +13,32 @@ use av_base::{List, Memory, Point};
 use av_flat::{Helper, Piece, Reference, Tree, first_moving, tree_references};
 use std::alloc::Global;
 
-// Appends the helper of a reference with this map, where it is moved.
-fn reference_helper(
+// A piece whose references are gone through: the place of its variable, its number, the linear part of its node, and the points
+// among which directions are sought.
+#[derive(Drop)]
+struct MovedPiece<'a> {
     place: u32,
-    piece: u32,
-    linear: &Point,
-    points: &[Point],
+    number: u32,
+    linear: &'a Point,
+    points: &'a [Point],
+}
+
+// Appends the helper of the reference with this number and this map, where it is moved.
+fn reference_helper(
+    piece: &MovedPiece<'_>,
     site: u32,
     map: &Map,
     helpers: &mut List<Helper>,
 ) -> Result<(), Memory>
-    requires linear { AtMost 4 linear.now }
-    requires fine { IsFineMap points.now map.now }
-    ensures { OnOk result (helpers.new
-        ≡ helpers.old ++ helper_of place piece site (first_moving linear.now map.now)) }
+    requires linear { AtMost 4 piece.now.linear.now }
+    requires fine { IsFineMap piece.now.points.now map.now }
+    ensures { OnOk result (helpers.new ≡ helpers.old ++ helper_of
+        piece.now.place piece.now.number site (first_moving piece.now.linear.now map.now)) }
 {
-    if let Some(direction) = first_moving(linear, map, points) {
+    if let Some(direction) = first_moving(piece.linear, map, piece.points) {
         helpers.push(Helper {
-            var: place,
-            piece,
+            var: piece.place,
+            piece: piece.number,
             site,
             direction,
         })?;
@@ -41,29 +48,18 @@ fn reference_helper(
 
 // Appends the helpers of references.
 fn reference_helpers(
-    place: u32,
-    piece: u32,
-    linear: &Point,
-    points: &[Point],
+    piece: &MovedPiece<'_>,
     found: &[Reference<'_>],
     helpers: &mut List<Helper>,
 ) -> Result<(), Memory>
-    requires linear { AtMost 4 linear.now }
+    requires linear { AtMost 4 piece.now.linear.now }
     requires few { length found.now ≤ 1073741824 }
-    requires fine { AllByRecursion (λ r. IsFineMap points.now r.map) found.now }
-    ensures { OnOk result (helpers.new
-        ≡ helpers.old ++ of_references place piece linear.now 0 found.now) }
+    requires fine { AllByRecursion (λ r. IsFineMap piece.now.points.now r.map) found.now }
+    ensures { OnOk result (helpers.new ≡ helpers.old
+        ++ of_references piece.now.place piece.now.number piece.now.linear.now 0 found.now) }
 {
     for (site, reference) in found.iter().enumerate() {
-        reference_helper(
-            place,
-            piece,
-            linear,
-            points,
-            site as u32,
-            reference.map,
-            helpers,
-        )?;
+        reference_helper(piece, site as u32, reference.map, helpers)?;
     }
     Ok(())
 }
@@ -71,22 +67,19 @@ fn reference_helpers(
 // Appends the helpers of the references in a tree.
 fn tree_helpers(
     alloc: Global,
-    place: u32,
-    piece: u32,
-    linear: &Point,
-    points: &[Point],
+    piece: &MovedPiece<'_>,
     tree: &Tree,
     helpers: &mut List<Helper>,
 ) -> Result<(), Memory>
-    requires linear { AtMost 4 linear.now }
-    requires maps { HasFineMaps points.now (view tree.now) }
-    ensures { OnOk result (helpers.new
-        ≡ helpers.old ++ of_references place piece linear.now 0 (references (view tree.now))) }
+    requires linear { AtMost 4 piece.now.linear.now }
+    requires maps { HasFineMaps piece.now.points.now (view tree.now) }
+    ensures { OnOk result (helpers.new ≡ helpers.old ++ of_references
+        piece.now.place piece.now.number piece.now.linear.now 0 (references (view tree.now))) }
 {
     let found = tree_references(alloc, tree)?;
     // So few that 32 bits number them.
     let _most = found.len();
-    reference_helpers(place, piece, linear, points, found.as_slice(), helpers)
+    reference_helpers(piece, found.as_slice(), helpers)
 }
 
 /// Appends the helpers of the references of a variable's pieces.
@@ -106,15 +99,13 @@ pub(crate) fn piece_helpers(
         ≡ helpers.old ++ of_pieces place linear.now 0 (map view_piece pieces.now)) }
 {
     for (number, piece) in pieces.iter().enumerate() {
-        tree_helpers(
-            alloc,
+        let moved = MovedPiece {
             place,
-            number as u32,
+            number: number as u32,
             linear,
             points,
-            &piece.tree,
-            helpers,
-        )?;
+        };
+        tree_helpers(alloc, &moved, &piece.tree, helpers)?;
     }
     Ok(())
 }

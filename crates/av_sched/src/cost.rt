@@ -17,7 +17,7 @@ ghost use Rattle.av_sched.specs.inner.Walk.{AreAllPriced};
 use crate::price::{Price, at_least, least_of};
 use av_affine::Map;
 use av_base::{List, Memory, Point};
-use av_flat::{Flat, Piece, Tree, along_of, moves, place_of, tree_references};
+use av_flat::{Flat, Piece, Tree, along_of, moves, tree_references, variable_of};
 use std::alloc::Global;
 
 // The place of an entry in the order.
@@ -117,9 +117,8 @@ fn ways_of_node(alloc: Global, flat: &Flat, node: usize) -> Result<List<List<Poi
     ensures { IfOk result (λ ways. ways ≡
         ways_of (references_of (slice_get (nodes (view_system flat.now)) node))) }
 {
-    let place = place_of(flat, node);
-    let vars = flat.vars.as_slice();
-    ways_of_pieces(alloc, vars[place].pieces.as_slice())
+    let var = variable_of(flat, node);
+    ways_of_pieces(alloc, var.pieces.as_slice())
 }
 
 // Whether the linear part goes up along some of the directions.

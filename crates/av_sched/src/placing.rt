@@ -20,7 +20,7 @@ use crate::lead::arc_of;
 use crate::start::least_value;
 use av_base::{List, Memory, Point};
 use av_depend::Edge;
-use av_flat::{Flat, Var};
+use av_flat::{Flat, Nodes, Var};
 use std::alloc::Global;
 
 /// The edges as differences of offsets.
@@ -58,14 +58,11 @@ fn starts_of(alloc: Global, flat: &Flat, linear: &[Point]) -> Result<List<i64>, 
     ensures starts { IfOk result (λ low. AreStarts (view_system flat.now) linear.now low) }
     ensures small { IfOk result (λ low. AreSmall 1073741824 low) }
 {
-    let vars = flat.vars.as_slice();
+    let nodes = Nodes::new(alloc, flat)?;
     let mut low = List::new(alloc);
-    for k in 0..vars.len() {
-        if !vars[k].is_node() {
-            continue;
-        }
-        let node = low.len();
-        let start = start_of(alloc, &vars[k], &linear[node])?;
+    for node in 0..nodes.len() {
+        let var = nodes.variable(node);
+        let start = start_of(alloc, var, &linear[node])?;
         low.push(start)?;
     }
     Ok(low)

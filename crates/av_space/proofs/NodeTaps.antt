@@ -1,36 +1,22 @@
 -- The tap sites of nodes, in turn.
-use Rattle.std.proofs.Common.{◌≡◌, ℕ, ◌+◌, ◌<◌, List, [], ◌∷◌, ◌++◌, length, map, get_or, sym, ap, ap₂, ◌∙◌, arith, Some}
+use Rattle.std.proofs.Common.{◌≡◌, ℕ, ◌+◌, ◌<◌, List, [], ◌∷◌, ◌++◌, length, map, get_or, sym, ap, ap₂, ◌∙◌, arith, zero-add, Some}
 use Rattle.std.specs.Prelude.{slice_get}
-use Rattle.std.specs.List.{range_with_len}
-use Rattle.std.proofs.lemmas.List.{take_more, map-append, length-map}
+use Rattle.std.proofs.lemmas.List.{map-append, length-map}
 use Rattle.std.proofs.lemmas.Option.{slice_get_within}
 use Rattle.std.proofs.Math.ListN.{get_or-map}
-use Rattle.std.proofs.lemmas.List.FromFn.{take-map-range_with_len, get_or-map-range_with_len, length-map-range_with_len}
+use Rattle.std.proofs.lemmas.List.FromFn.{map-range_with_len_more, get_or-map-range_with_len, length-map-range_with_len}
 use Rattle.av_flat.specs.declared.timed.Helper.{Helper}
 use Rattle.av_flat.specs.Trees.{Variable, FlatSystem}
-use Rattle.av_flat.specs.Nodes.{nodes, node_place, places_of}
+use Rattle.av_flat.specs.Nodes.{nodes, node_place}
 use Rattle.av_space.specs.Taps.{Tap, taps, taps_of}
 use Rattle.av_space.specs.inner.Sites.{TapMade, tap_of, AreTapsTo, AreNodeTaps}
-
--- one more value of a function
-one_value_more : {X : Type 0} (f : ℕ → X) (k : ℕ) → map f (range_with_len 0 (k + 1)) ≡ map f (range_with_len 0 k) ++ f k ∷ []
-one_value_more f k =
-    let all = map f (range_with_len 0 (k + 1)) in
-    let size = length-map-range_with_len f 0 (k + 1) in
-    sym (take-map-range_with_len f 0 (k + 1) (k + 1) (omega arith)) ∙ take_more all k (f k) (omega (arith, size))
-    ∙ ap₂ (λ (a : List _) b. a ++ b ∷ []) (take-map-range_with_len f 0 (k + 1) k (omega arith)) (get_or-map-range_with_len f 0 (k + 1) k k (f k) (omega arith) (omega arith))
 
 pub taps_step : (s : FlatSystem) (hs : List Helper) (k place : ℕ) (v : Variable) → place ≡ node_place s k → slice_get (nodes s) k ≡ Some v → (ts : List TapMade) → map tap_of ts ≡ taps s hs place v → (sites : List (List TapMade))
     → AreTapsTo s hs k sites → AreTapsTo s hs (k + 1) (sites ++ ts ∷ [])
 taps_step s hs k place v here is ts e sites h =
     let f : ℕ → List Tap = λ n. taps_of s hs n (slice_get (nodes s) n) in
     let own : map tap_of ts ≡ f k = e ∙ ap (λ (m : ℕ). taps s hs m v) here ∙ ap (taps_of s hs k) (sym is) in
-    map-append (λ (l : List TapMade). map tap_of l) sites (ts ∷ []) ∙ ap₂ (λ (a : List (List Tap)) b. a ++ b ∷ []) h own ∙ sym (one_value_more f k)
-
-pub place_is : (s : FlatSystem) (places : List ℕ) (n : ℕ) → places ≡ places_of s → n < length places → get_or places n 0 ≡ node_place s n
-place_is s places n e low =
-    let size : length places ≡ length (nodes s) = ap (λ (l : List ℕ). length l) e ∙ length-map-range_with_len (node_place s) 0 (length (nodes s)) in
-    ap (λ (l : List ℕ). get_or l n 0) e ∙ get_or-map-range_with_len (node_place s) 0 (length (nodes s)) n n 0 (omega (arith, size, low)) (omega arith)
+    map-append (λ (l : List TapMade). map tap_of l) sites (ts ∷ []) ∙ ap₂ (λ (a : List (List Tap)) b. a ++ b ∷ []) h own ∙ sym (map-range_with_len_more f 0 k k (zero-add k))
 
 -- those of one node
 pub taps_at_node : (s : FlatSystem) (hs : List Helper) (sites : List (List TapMade)) → AreNodeTaps s hs sites → (n : ℕ) (v : Variable) → slice_get (nodes s) n ≡ Some v → (d : List TapMade)

@@ -3,11 +3,12 @@ use Rattle.std.proofs.Common.{◌≡◌, ℕ, ◌+◌, ◌-◌, ◌<◌, ◌≤�
 use Rattle.std.specs.Prelude.{slice_get, Contains, AllPairs}
 use Rattle.std.proofs.lemmas.Bool.{cases_lt}
 use Rattle.std.proofs.lemmas.Int.{ints}
+use Rattle.std.proofs.lemmas.List.{length-map}
 use Rattle.std.proofs.lemmas.List.Elements.{All-contains}
 use Rattle.av_affine.specs.Numbers.{AtMost}
 use Rattle.av_tree.specs.Points.{Point}
 use Rattle.av_flat.specs.declared.timed.Timed.{Timed}
-use Rattle.av_flat.specs.Trees.{Tree, Piece, Variable, FlatSystem, view_system, reference, constant, binary, choice, restriction, cases, dependence, reduction, pick}
+use Rattle.av_flat.specs.Trees.{Tree, Piece, Variable, FlatSystem, view_system, view_variable, reference, constant, binary, choice, restriction, cases, dependence, reduction, pick}
 use Rattle.av_flat.specs.Points.{has}
 use Rattle.av_flat.specs.Signatures.{signatures}
 use Rattle.av_flat.specs.Chained.{IsChainedPiece}
@@ -22,8 +23,9 @@ use Rattle.av_space.specs.Coordinates.{Placing, along}
 use Rattle.av_space.specs.Occupancy.{AreCells, IsCellBefore, Computes}
 use Rattle.av_space.specs.Taps.{Way, each, entries, handed, Tap, taps, IsReadBy, IsTapRead}
 use Rattle.av_space.specs.Layouts.{IsLayout, IsSlot}
-use Rattle.av_space.specs.inner.Readings.{IsSiteOn, IsReadingAt}
+use Rattle.av_space.specs.inner.Readings.{IsFineTap, IsSiteOn, IsReadingAt}
 use Rattle.av_space.proofs.Elements.{at_index}
+use Rattle.av_space.proofs.FineSites.{fine_tap}
 use Rattle.av_flat.proofs.NodeNumbers.{passing, own_place, chained_node}
 use Rattle.av_space.proofs.Nodes.{computed_small}
 use Rattle.av_space.proofs.OneArray.{cells_in_turn}
@@ -88,6 +90,13 @@ module _ (t : Timed) (l : Layout) (legal : IsLegal t) (layout : IsLayout t l) wh
       let cell : i.computes.cell ≡ is.cell = some_is i.computes.cell is.cell (sym i.computes.is_cell ∙ is.is_cell) in
       let node : i.node ≡ n = sym i.computes.stands.node ∙ ap (λ (x : Cell). x.node) cell ∙ is.node in
       subst (λ (k : ℕ). Computes own l.placements l.cells p c k z) node i.computes
+
+  -- what is granted of the site
+  pub site_fine : (p j n : ℕ) (tap : Tap) (piece : Piece) (slots : List Slot) → IsSiteOn own t.helpers l.placements l.cells p j n tap piece slots → IsFineTap piece.domain.dim (length t.flat.vars) tap
+  site_fine p j n tap piece slots is =
+      let f = fine_tap t legal (node_place own n) is.variable (chained_node own n is.variable legal.chained is.is_variable) j tap is.is_tap in
+      let same : f.piece ≡ piece = some_is f.piece piece (sym f.is_piece ∙ is.is_piece) in
+      subst (λ (k : ℕ). IsFineTap piece.domain.dim k tap) (length-map t.flat.vars view_variable) (subst (λ (q : Piece). IsFineTap q.domain.dim (length own.variables) tap) same f.fine)
 
   -- what it reads is computed at least one cycle before
   pub read_before : (p j n : ℕ) (tap : Tap) (piece : Piece) (slots : List Slot) → IsSiteOn own t.helpers l.placements l.cells p j n tap piece slots → (c : ℕ) (z : Point) → Contains slots (record { cycle = c; point = z })

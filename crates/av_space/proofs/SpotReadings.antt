@@ -1,7 +1,6 @@
 -- What the tap sites of a piece on a cell read there, by the links and the ports of the array.
-use Rattle.std.proofs.Common.{◌≡◌, ℕ, List, length, sym, ap, subst, ◌∙◌, arith, Option, Some, None, ◌↔◌}
+use Rattle.std.proofs.Common.{◌≡◌, ℕ, List, sym, ap, subst, ◌∙◌, arith, Option, Some, None, ◌↔◌}
 use Rattle.std.specs.Prelude.{slice_get, Contains, IfSome, MatchOption}
-use Rattle.std.proofs.lemmas.List.{length-map}
 use Rattle.std.proofs.lemmas.List.Elements.{All-contains}
 use Rattle.av_tree.specs.Points.{Point}
 use Rattle.av_flat.specs.Trees.{Tree, Piece, Variable, FlatSystem, view_piece, view_variable}
@@ -19,18 +18,17 @@ use Rattle.av_flat.specs.Nodes.{node_place}
 use Rattle.av_space.specs.Taps.{Pipeline, helper_at, IsReadAt, Way, Tap, taps_at, IsReadBy, IsTapRead, IsTapped}
 use Rattle.av_space.specs.Links.{IsStretch}
 use Rattle.av_space.specs.Spots.{system_of, helpers_of, placings_of, cells_of, IsArray, IsSpot, IsSlotIn, IsSiteOf, pipeline_by, IsLinkedBy}
-use Rattle.av_space.specs.inner.Readings.{IsFineTap, IsSiteOn, IsSite, IsReadingAt, IsReadingOf}
+use Rattle.av_space.specs.inner.Readings.{IsSiteOn, IsSite, IsReadingAt, IsReadingOf}
 use Rattle.av_space.specs.inner.SpotTaps.{IsSpotTap, IsReadThere, IsComputedRead, IsPortSite}
 use Rattle.av_flat.proofs.NodeNumbers.{chained_node, node_variable}
 use Rattle.av_space.proofs.Elements.{in_range, at_index}
-use Rattle.av_space.proofs.FineSites.{fine_tap}
 use Rattle.av_space.proofs.OneReading.{read_before}
 use Rattle.av_space.proofs.Scheduling.{scheduled}
 use Rattle.av_space.proofs.SiteLinks.{to_tapped}
 use Rattle.av_space.proofs.SpotPlaces.{IsPlaceBy, place_known, place_read, tap_site}
 use Rattle.av_space.proofs.Timely.{IsDeclaredRead, read_declared, IsNodeRead, read_node, computed_there}
 use Rattle.av_base.proofs.Among.{among_at}
-use Rattle.av_base.proofs.Lists.{some_is, there_is}
+use Rattle.av_base.proofs.Lists.{there_is}
 
 module _ (a : Array) (is : IsArray a) (at : Spot) (spot : IsSpot a at) where
   abbrev s : FlatSystem
@@ -69,13 +67,6 @@ module _ (a : Array) (is : IsArray a) (at : Spot) (spot : IsSpot a at) where
 
     pub site : (slots : List Slot) × Contains slots slot × IsSite s (helpers_of a) (placings_of a) (cells_of a) at.node tap piece slots
     site = (own_slots.0, among, record { consumer = at.cell; number = tapped.number; is = site_on })
-
-    pub fine : IsFineTap at.piece.now.domain.dim (length a.timed.now.flat.vars) tap
-    fine =
-        let f = fine_tap a.timed.now is.legal (node_place s at.node) v (chained_node s at.node v is.legal.chained spot.is_variable) tapped.number tap tapped.is_tap in
-        let same : f.piece ≡ piece = some_is f.piece piece (sym f.is_piece ∙ site_on.is_piece) in
-        subst (λ (k : ℕ). IsFineTap piece.domain.dim k tap) (length-map a.timed.now.flat.vars view_variable)
-        (subst (λ (q : Piece). IsFineTap q.domain.dim (length s.variables) tap) same f.fine)
 
     abbrev At : ℕ → ℕ → Type 0
     At q d = IsReadingAt s (placings_of a) (cells_of a) at.node tap piece slot.point slot.cycle q d

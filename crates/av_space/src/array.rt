@@ -88,6 +88,13 @@ impl<'a> Array<'a> {
         })
     }
 
+    /// The system.
+    pub fn system(&self) -> &'a Timed
+        ensures { result.now ≡ self.now.timed.now }
+    {
+        self.timed
+    }
+
     /// The computations on a cell, by cycle.
     pub fn slots(&self, cell: usize) -> &[Slot]
         requires array { IsArray self.now }

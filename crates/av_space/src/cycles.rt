@@ -35,11 +35,11 @@ fn raised(time: &Time, points: &[Point], count: u128) -> u128
 pub(crate) fn cycle_count(alloc: Global, timed: &TimedNodes<'_>) -> Result<u128, Memory>
     ensures { IfOk result (IsCycles timed.now) }
 {
-    let times = timed.times();
     let mut count: u128 = 0;
     for node in 0..timed.len() {
         let points = node_points(alloc, timed, node)?;
-        count = raised(&times[node], points.as_slice(), count);
+        let time = timed.time(node);
+        count = raised(time, points.as_slice(), count);
     }
     Ok(count)
 }

@@ -7,7 +7,7 @@ ghost use Rattle.av_space.specs.inner.Feeding.{direction_of, is_entered, line_at
 
 use crate::layout::Slot;
 use crate::reading::before;
-use crate::tapping::helper_at;
+use crate::tapping::{ReferenceAt, helper_at};
 use av_affine::Map;
 use av_base::{Memory, Name, Point};
 use av_flat::{Helper, Var};
@@ -27,10 +27,10 @@ pub(crate) struct InputSite<'a> {
 }
 
 /// The direction of the helper of a reference.
-pub(crate) fn direction_of(helpers: &[Helper], place: usize, piece: u32, site: u32) -> Option<Point>
-    ensures { result ≡ direction_of (helper_at helpers.now place piece site) }
+pub(crate) fn direction_of(helpers: &[Helper], at: ReferenceAt) -> Option<Point>
+    ensures { result ≡ direction_of (helper_at helpers.now at.place at.piece at.site) }
 {
-    Some(helper_at(helpers, place, piece as usize, site)?.direction)
+    Some(helper_at(helpers, at)?.direction)
 }
 
 impl InputSite<'_> {

@@ -29,7 +29,6 @@ fn node_cells(
     node: usize,
     placement: &Placement,
 ) -> Result<usize, Memory>
-    requires legal { IsLegal timed.now }
     requires within { node < length (nodes (view_system timed.now.flat)) }
     requires placing { IsPlacing placement.now }
     requires time { slice_get timed.now.times node ≡ Some placement.now.time }
@@ -50,6 +49,23 @@ fn node_cells(
     Ok(count)
 }
 
+// The placement of a node.
+fn placement_at<'p>(
+    timed: &TimedNodes<'_>,
+    placements: &'p List<Placement>,
+    node: usize,
+) -> &'p Placement
+    requires placings { ArePlacings timed.now.times placements.now }
+    requires within { node < length (nodes (view_system timed.now.flat)) }
+    ensures is { slice_get placements.now node ≡ Some result.now }
+    ensures placing { IsPlacing result.now }
+    ensures time { slice_get timed.now.times node ≡ Some result.now.time }
+{
+    let count = timed.len();
+    prove!(node < count);
+    &placements.as_slice()[node]
+}
+
 // The number of cells of all nodes, which is no less than that of the nodes.
 fn cell_count(
     alloc: Global,
@@ -63,10 +79,10 @@ fn cell_count(
         (length (nodes (view_system timed.now.flat)))) }
     ensures nodes { IfOk result (λ count. length (nodes (view_system timed.now.flat)) ≤ count) }
 {
-    let placements = placements.as_slice();
     let mut count: u128 = 0;
     for node in 0..timed.len() {
-        let cells = node_cells(alloc, timed, node, &placements[node])?;
+        let placement = placement_at(timed, placements, node);
+        let cells = node_cells(alloc, timed, node, placement)?;
         count += cells as u128;
     }
     Ok(count)
@@ -92,7 +108,6 @@ fn add_node(
     cells: &mut List<Cell>,
     slots: &mut List<List<Slot>>,
 ) -> Result<(), Memory>
-    requires legal { IsLegal timed.now }
     requires within { node < length (nodes (view_system timed.now.flat)) }
     requires placing { IsPlacing placement.now }
     requires time { slice_get timed.now.times node ≡ Some placement.now.time }
@@ -139,9 +154,9 @@ fn add_nodes(
     ensures slots { OnOk result
         (AreFilled (view_system timed.now.flat) placements.now cells.new slots.new) }
 {
-    let placements = placements.as_slice();
     for node in 0..timed.len() {
-        add_node(alloc, timed, node, &placements[node], cells, slots)?;
+        let placement = placement_at(timed, placements, node);
+        add_node(alloc, timed, node, placement, cells, slots)?;
     }
     Ok(())
 }

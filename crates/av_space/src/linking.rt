@@ -7,9 +7,9 @@ ghost use Rattle.av_flat.specs.Nodes.{node_place};
 ghost use Rattle.av_space.specs.Taps.{taps, IsTapped};
 ghost use Rattle.av_space.specs.inner.Apart.{AreOfNode};
 ghost use Rattle.av_space.specs.inner.Sites.{tap_of, AreNodeTaps};
-ghost use Rattle.av_space.specs.inner.Readings.{IsFineTap, IsSite, HasSite, IsReadingAt, IsReadingOf, AreReadings, IsConsumer, AreOwn};
+ghost use Rattle.av_space.specs.inner.Readings.{IsSite, HasSite, IsReadingAt, IsReadingOf, AreReadings, IsReader, AreOwn};
 ghost use Rattle.av_space.specs.inner.Quantified.{LinksOf};
-ghost use Rattle.av_space.specs.inner.Scheduled.{IsScheduled, system_of, helpers_of, placings_of, cells_of};
+ghost use Rattle.av_space.specs.inner.Scheduled.{system_of, helpers_of, placings_of, cells_of};
 ghost use Rattle.av_space.specs.inner.Stretches.{HasLinks, IsAt, IsOn};
 
 use crate::apart::slots_in;
@@ -18,7 +18,7 @@ use crate::layout::Slot;
 use crate::locate::locate;
 use crate::reading::{is_in, read_at};
 use crate::scheduled::ScheduledSystem;
-use crate::stretch::{TapReading, site_links};
+use crate::stretch::{TapAt, TapReading, site_links};
 use crate::tap::TapSite;
 use crate::tapping::taps_of;
 use crate::timed_nodes::TimedNodes;
@@ -43,9 +43,7 @@ pub(crate) fn reading_at(
     piece: &Piece,
     slot: &Slot,
 ) -> Option<TapReading>
-    requires fine { IsFineTap piece.now.domain.dim
-        (length scheduled.now.timed.flat.vars) (tap_of site.now) }
-    requires site { (slots : Items SlotSeen) × Contains slots slot.now
+    requires { (slots : Items SlotSeen) × Contains slots slot.now
         × IsSite (system_of scheduled.now) (helpers_of scheduled.now) (placings_of scheduled.now)
         (cells_of scheduled.now) node (tap_of site.now) (view_piece piece.now) slots }
     ensures cycle { IfSome result (λ r. r.cycle ≡ slot.now.cycle) }
@@ -76,9 +74,7 @@ fn readings(
     piece: &Piece,
     slots: &[Slot],
 ) -> Result<List<TapReading>, Memory>
-    requires fine { IsFineTap piece.now.domain.dim
-        (length scheduled.now.timed.flat.vars) (tap_of site.now) }
-    requires site { HasSite (system_of scheduled.now) (helpers_of scheduled.now)
+    requires { HasSite (system_of scheduled.now) (helpers_of scheduled.now)
         (placings_of scheduled.now) (cells_of scheduled.now) node (tap_of site.now)
         (view_piece piece.now) slots.now }
     ensures { IfOk result (AreReadings (IsReadingOf
@@ -120,10 +116,7 @@ fn tap_links(
     own: &[List<Slot>],
     links: &mut List<Link>,
 ) -> Result<(), Memory>
-    requires scheduled { IsScheduled scheduled.now }
-    requires consumer { IsConsumer (system_of scheduled.now)
-        (placings_of scheduled.now) (cells_of scheduled.now) consumer.now.number consumer.now.node
-        (view_variable consumer.now.var.now) consumer.now.slots.now }
+    requires consumer { IsReader scheduled.now consumer.now }
     requires site { slice_get (taps (system_of scheduled.now) (helpers_of scheduled.now) (node_place
         (system_of scheduled.now) consumer.now.node) (view_variable consumer.now.var.now)) number
         ≡ Some (tap_of site.now) }
@@ -136,7 +129,11 @@ fn tap_links(
     let piece = piece_at(consumer.var, place);
     let slots = slots_at(own, place);
     let readings = readings(alloc, scheduled, consumer.node, site, piece, slots)?;
-    site_links(consumer.number, number, readings.as_slice(), links)
+    let at = TapAt {
+        consumer: consumer.number,
+        site: number,
+    };
+    site_links(at, readings.as_slice(), links)
 }
 
 // Appends the links of all tap sites of a cell.
@@ -148,10 +145,7 @@ fn cell_links(
     own: &[List<Slot>],
     links: &mut List<Link>,
 ) -> Result<(), Memory>
-    requires scheduled { IsScheduled scheduled.now }
-    requires consumer { IsConsumer (system_of scheduled.now)
-        (placings_of scheduled.now) (cells_of scheduled.now) consumer.now.number consumer.now.node
-        (view_variable consumer.now.var.now) consumer.now.slots.now }
+    requires consumer { IsReader scheduled.now consumer.now }
     requires sites { map tap_of sites.now
         ≡ taps (system_of scheduled.now) (helpers_of scheduled.now)
         (node_place (system_of scheduled.now) consumer.now.node)
@@ -188,9 +182,7 @@ pub(crate) fn node_taps<'a>(
 fn consumer_at<'a>(scheduled: &ScheduledSystem<'a>, number: usize) -> Consumer<'a>
     requires { number < length (cells_of scheduled.now) }
     ensures number { result.number ≡ number }
-    ensures consumer { IsConsumer (system_of scheduled.now)
-        (placings_of scheduled.now) (cells_of scheduled.now) result.number result.node
-        (view_variable result.var.now) result.slots.now }
+    ensures consumer { IsReader scheduled.now result }
 {
     let node = scheduled.cells()[number].node as usize;
     Consumer {

@@ -10,7 +10,7 @@ ghost use Rattle.av_space.specs.Layouts.{IsLayout};
 ghost use Rattle.av_space.specs.Listings.{AreAtLines};
 ghost use Rattle.av_space.specs.Ports.{output_cells};
 ghost use Rattle.av_space.specs.inner.Quantified.{AreWithin, IsLaidOut, LinksOf, delays_of};
-ghost use Rattle.av_space.specs.inner.Scheduled.{IsScheduled, system_of, placings_of, cells_of};
+ghost use Rattle.av_space.specs.inner.Scheduled.{system_of, placings_of, cells_of};
 
 use crate::cells::{Cell, Cells, Link};
 use crate::fault::SpaceFault;
@@ -35,8 +35,7 @@ fn within_limits(
     scheduled: &ScheduledSystem<'_>,
     links: &[Link],
 ) -> Result<u32, SpaceFault>
-    requires scheduled { IsScheduled scheduled.now }
-    requires links { LinksOf scheduled.now links.now }
+    requires { LinksOf scheduled.now links.now }
     ensures delays { IfOk result (λ n. n ≡ delays_of scheduled.now links.now) }
     ensures within { IfOk result (λ n. AreWithin scheduled.now links.now) }
     ensures refused { IfErr result (IsSpaceFault scheduled.now.timed) }
@@ -116,7 +115,6 @@ fn laid_out(
 
 // The array of a system with its layout, where its quantities are within their limits.
 fn mapped(alloc: Global, scheduled: &ScheduledSystem<'_>) -> Result<Cells, SpaceFault>
-    requires { IsScheduled scheduled.now }
     ensures whole { IfOk result (IsWhole scheduled.now.timed) }
     ensures complete { IfOk result (λ a. (f : Fault)
         → IsSpaceFault scheduled.now.timed f → f ≡ fault.Memory) }

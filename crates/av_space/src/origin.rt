@@ -32,42 +32,39 @@ pub enum Origin {
     Number(Word),
 }
 
-// Whether the port comes before that of a reference, by its piece and its number there, on a cell.
-fn is_port_before(cells: &[Cell], port: &InPort, cell: usize, piece: usize, site: u32) -> bool
-    requires first { port.now.cell < length cells.now }
-    requires second { cell < length cells.now }
-    ensures { IsTrue result
-        ↔ IsPortBefore cells.now port.now (record { cell = cell; piece = piece; site = site }) }
+// Whether the first port comes before the second.
+fn is_port_before(cells: &[Cell], a: &InPort, b: &InPort) -> bool
+    requires first { a.now.cell < length cells.now }
+    requires second { b.now.cell < length cells.now }
+    ensures { IsTrue result ↔ IsPortBefore cells.now a.now b.now }
 {
-    let node = cells[port.cell as usize].node;
-    let other = cells[cell].node;
+    let node = cells[a.cell as usize].node;
+    let other = cells[b.cell as usize].node;
     if node != other {
         return node < other;
     }
-    let own_piece = port.piece as usize;
-    if own_piece != piece {
-        return own_piece < piece;
+    if a.piece != b.piece {
+        return a.piece < b.piece;
     }
-    if port.site != site {
-        return port.site < site;
+    if a.site != b.site {
+        return a.site < b.site;
     }
-    (port.cell as usize) < cell
+    a.cell < b.cell
 }
 
-// The number of the port of a reference on a cell.
-fn port_at(cells: &[Cell], ports: &[InPort], cell: usize, piece: usize, site: u32) -> usize
+// The number of a port.
+fn port_at(cells: &[Cell], ports: &[InPort], port: &InPort) -> usize
     requires cells { All (λ p. p.cell < length cells.now) ports.now }
     requires order { AllPairs (IsPortBefore cells.now) ports.now }
-    requires cell { cell < length cells.now }
-    requires there { Contains ports.now (record { cell = cell; piece = piece; site = site }) }
-    ensures { slice_get ports.now result
-        ≡ Some (record { cell = cell; piece = piece; site = site }) }
+    requires cell { port.now.cell < length cells.now }
+    requires there { Contains ports.now port.now }
+    ensures { slice_get ports.now result ≡ Some port.now }
 {
     let mut low: usize = 0;
     let mut high = ports.len();
     while low < high {
         let middle = low + (high - low) / 2;
-        if is_port_before(cells, &ports[middle], cell, piece, site) {
+        if is_port_before(cells, &ports[middle], port) {
             low = middle + 1;
         } else {
             high = middle;
@@ -116,15 +113,16 @@ impl Array<'_> {
         ensures { slice_get self.now.cells.now.inputs result ≡ Some
             (record { cell = spot.now.cell; piece = spot.now.number; site = site.now.place.site }) }
     {
+        // So few pieces that 32 bits number them.
+        let _most = spot.var.pieces.len();
         let place = &site.place;
+        let port = InPort {
+            cell: spot.cell as u32,
+            piece: spot.number as u32,
+            site: place.site,
+        };
         let cells = self.layout.cells.as_slice();
-        port_at(
-            cells,
-            self.cells.inputs.as_slice(),
-            spot.cell,
-            spot.number,
-            place.site,
-        )
+        port_at(cells, self.cells.inputs.as_slice(), &port)
     }
 
     // Where a place of a computed variable reads itself: over a link, where it reads.

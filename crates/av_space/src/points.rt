@@ -2,6 +2,7 @@
 
 ghost use Rattle.std.specs.Prelude.{◌≤◌, ◌<◌, length, All, IfOk};
 ghost use Rattle.av_affine.specs.Forms.{IsWithinLimits};
+ghost use Rattle.av_flat.specs.Legal.{IsLegal};
 ghost use Rattle.av_flat.specs.Sets.{IsBounded};
 ghost use Rattle.av_flat.specs.Trees.{view_system};
 ghost use Rattle.av_depend.specs.AllPoints.{AreAllPoints};
@@ -35,7 +36,8 @@ pub(crate) fn node_points(
     node: usize,
 ) -> Result<List<Point>, Memory>
     requires { node < length (nodes (view_system timed.now.flat)) }
-    ensures { IfOk result (AreNodePoints (view_system timed.now.flat) node) }
+    ensures points { IfOk result (AreNodePoints (view_system timed.now.flat) node) }
+    ensures legal { IsLegal timed.now }
 {
     points_of(alloc, &timed.variable(node).domain)
 }

@@ -12,7 +12,7 @@ ghost use Rattle.av_space.specs.Listings.{input_name, AreInLines};
 ghost use Rattle.av_space.specs.Ports.{ArePorts};
 ghost use Rattle.av_space.specs.Occupancy.{IsCellBefore};
 ghost use Rattle.av_space.specs.inner.Feeding.{is_entered, lines_at, with_port, IsReadable, IsFirstOf};
-ghost use Rattle.av_space.specs.inner.NodePieces.{AreOfPiece, AreOwnSlots, IsNodePiece, IsPart, IsInputSite, ArePortsAt, ArePortsOf};
+ghost use Rattle.av_space.specs.inner.NodePieces.{AreCellsOf, AreOfPiece, AreOwnSlots, IsNodePiece, IsPart, IsInputSite, ArePortsAt, ArePortsOf};
 ghost use Rattle.av_space.specs.inner.Scheduled.{system_of, helpers_of, placings_of, cells_of};
 
 use crate::apart::slots_in;
@@ -21,9 +21,9 @@ use crate::input_site::{InputSite, direction_of};
 use crate::layout::Slot;
 use crate::linking::piece_at;
 use crate::scheduled::ScheduledSystem;
-use av_affine::Map;
+use crate::tapping::ReferenceAt;
 use av_base::{List, Memory, Name};
-use av_flat::{Piece, tree_references};
+use av_flat::{Piece, Reference, tree_references};
 use av_net::Entry;
 use std::alloc::Global;
 
@@ -32,6 +32,14 @@ use std::alloc::Global;
 pub(crate) struct Ports {
     pub(crate) inputs: List<InPort>,
     pub(crate) ins: List<Entry>,
+}
+
+// A node, and its cells: those from `first` on and before `last`.
+#[derive(Clone, Copy)]
+struct NodeCells {
+    node: usize,
+    first: usize,
+    last: usize,
 }
 
 // A piece of a node, and the cells of the node.
@@ -151,28 +159,32 @@ fn add_reference(
     alloc: Global,
     at: &NodePiece,
     number: u32,
-    var: u32,
-    map: &Map,
+    read: &Reference<'_>,
     ports: &mut Ports,
 ) -> Result<(), Memory>
     requires at { IsNodePiece at.now }
-    requires part { IsPart at.now number (reference var map.now) }
+    requires part { IsPart at.now number (reference read.now.place read.now.map) }
     requires old { ArePortsAt at.now number at.now.first ports.old }
     ensures { OnOk result (ArePortsAt at.now (number + 1) at.now.first ports.new) }
 {
     let nodes = at.scheduled.timed();
     let timed = nodes.system();
-    let input = &timed.flat.vars.as_slice()[var as usize];
+    let input = &timed.flat.vars.as_slice()[read.var as usize];
     if input.kind.is_computed() {
         return Ok(());
     }
     let place = nodes.place(at.node);
+    let own = ReferenceAt {
+        place,
+        piece: at.number as usize,
+        site: number,
+    };
     let helpers = timed.helpers.as_slice();
     let site = InputSite {
         domain: &at.piece.domain,
-        direction: direction_of(helpers, place, at.number, number),
+        direction: direction_of(helpers, own),
         input,
-        map,
+        map: read.map,
     };
     add_site(alloc, at, number, &site, ports)
 }
@@ -187,15 +199,8 @@ fn add_piece(alloc: Global, at: &NodePiece, ports: &mut Ports) -> Result<(), Mem
     let piece = at.piece;
     let found = tree_references(alloc, &piece.tree)?;
     for number in 0..found.len() {
-        let reference = &found.as_slice()[number];
-        add_reference(
-            alloc,
-            at,
-            number as u32,
-            reference.var,
-            reference.map,
-            ports,
-        )?;
+        let read = &found.as_slice()[number];
+        add_reference(alloc, at, number as u32, read, ports)?;
     }
     Ok(())
 }
@@ -205,16 +210,15 @@ fn slots_of_piece(
     alloc: Global,
     rows: &[List<Slot>],
     piece: &Piece,
-    first: usize,
-    last: usize,
+    cells: NodeCells,
 ) -> Result<List<List<Slot>>, Memory>
-    requires slots { AreOfPiece rows.now piece.now.domain first last }
-    requires ordered { first ≤ last }
-    requires within { last ≤ length rows.now }
-    ensures { IfOk result (AreOwnSlots rows.now piece.now.domain first last) }
+    requires slots { AreOfPiece rows.now piece.now.domain cells.first cells.last }
+    requires ordered { cells.first ≤ cells.last }
+    requires within { cells.last ≤ length rows.now }
+    ensures { IfOk result (AreOwnSlots rows.now piece.now.domain cells.first cells.last) }
 {
     let mut own = List::new(alloc);
-    for cell in first..last {
+    for cell in cells.first..cells.last {
         let slots = rows[cell].as_slice();
         let part = slots_in(alloc, slots, &piece.domain)?;
         own.push(part)?;
@@ -226,30 +230,25 @@ fn slots_of_piece(
 fn add_node(
     alloc: Global,
     scheduled: &ScheduledSystem<'_>,
-    node: usize,
-    first: usize,
-    last: usize,
+    cells: NodeCells,
     ports: &mut Ports,
 ) -> Result<(), Memory>
-    requires node { node < length (nodes (system_of scheduled.now)) }
-    requires first { IsFirstOf (cells_of scheduled.now) node first }
-    requires last { IsFirstOf (cells_of scheduled.now) (node + 1) last }
-    requires ordered { first ≤ last }
-    requires within { last ≤ length (cells_of scheduled.now) }
-    requires old { ArePortsOf scheduled.now node 0 first ports.old }
-    ensures { OnOk result (ArePortsOf scheduled.now (node + 1) 0 last ports.new) }
+    requires node { cells.node < length (nodes (system_of scheduled.now)) }
+    requires cells { AreCellsOf (cells_of scheduled.now) cells }
+    requires old { ArePortsOf scheduled.now cells.node 0 cells.first ports.old }
+    ensures { OnOk result (ArePortsOf scheduled.now (cells.node + 1) 0 cells.last ports.new) }
 {
-    let var = scheduled.variable(node);
+    let var = scheduled.variable(cells.node);
     for number in 0..var.pieces.len() {
         let piece = piece_at(var, number);
-        let own = slots_of_piece(alloc, scheduled.slots(), piece, first, last)?;
+        let own = slots_of_piece(alloc, scheduled.slots(), piece, cells)?;
         let at = NodePiece {
             scheduled,
-            node,
+            node: cells.node,
             piece,
             number: number as u32,
-            first,
-            last,
+            first: cells.first,
+            last: cells.last,
             own,
         };
         add_piece(alloc, &at, ports)?;
@@ -291,7 +290,7 @@ fn add_nodes(
     let mut first = 0;
     for node in 0..scheduled.node_count() {
         let last = end_of(cells, node, first);
-        add_node(alloc, scheduled, node, first, last, ports)?;
+        add_node(alloc, scheduled, NodeCells { node, first, last }, ports)?;
         first = last;
     }
     Ok(())

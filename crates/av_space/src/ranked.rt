@@ -78,12 +78,13 @@ pub(crate) fn node_ranked(
     node: usize,
     placement: &Placement,
 ) -> Result<Vec<Ranked>, Memory>
-    requires legal { IsLegal timed.now }
     requires within { node < length (nodes (view_system timed.now.flat)) }
     requires placing { IsPlacing placement.now }
     requires time { slice_get timed.now.times node ≡ Some placement.now.time }
     requires ends { HasFewCycles timed.now }
-    ensures { IfOk result (λ v. AreRanked (view_system timed.now.flat) node placement.now v.items) }
+    ensures ranked { IfOk result (λ v.
+        AreRanked (view_system timed.now.flat) node placement.now v.items) }
+    ensures legal { IsLegal timed.now }
 {
     let points = node_points(alloc, timed, node)?;
     in_order(alloc, placement, points.as_slice())

@@ -10,7 +10,7 @@ use crate::array::Array;
 use crate::layout::Slot;
 use crate::linking::piece_at;
 use crate::tap::Pipeline;
-use crate::tapping::{helper_at, same};
+use crate::tapping::{ReferenceAt, helper_at, same};
 use av_base::{List, Memory};
 use av_flat::{Helper, Piece, ReadingPlace, Tree, Var, tree_places};
 use std::alloc::Global;
@@ -54,12 +54,26 @@ pub fn ends_of(slots: &[Slot]) -> Ends
     }
 }
 
+// A piece on a cell, by its number.
+#[derive(Clone, Copy)]
+struct PieceOn {
+    cell: usize,
+    number: usize,
+}
+
 // The helper of a place that is a reference, of the variable at the place `own`.
 fn pipeline(helpers: &[Helper], own: usize, place: &ReadingPlace<'_>) -> Option<Pipeline>
     ensures { result ≡ pipeline_by helpers.now own (place_of place.now) (view place.now.tree) }
 {
     match place.tree {
-        Tree::Ref { .. } => helper_at(helpers, own, place.piece, place.site),
+        Tree::Ref { .. } => helper_at(
+            helpers,
+            ReferenceAt {
+                place: own,
+                piece: place.piece,
+                site: place.site,
+            },
+        ),
         _ => None,
     }
 }
@@ -80,23 +94,24 @@ impl<'a> Array<'a> {
     }
 
     // The piece with this number on a cell.
-    fn spot(&self, alloc: Global, cell: usize, number: usize) -> Result<Spot<'a>, Memory>
+    fn spot(&self, alloc: Global, on: PieceOn) -> Result<Spot<'a>, Memory>
         requires array { IsArray self.now }
-        requires cell { cell < length (cells_of self.now) }
-        requires piece { HasPiece self.now cell number }
-        ensures { IfOk result (λ at. (at.cell ≡ cell) × (at.number ≡ number) × IsSpot self.now at) }
+        requires cell { on.cell < length (cells_of self.now) }
+        requires piece { HasPiece self.now on.cell on.number }
+        ensures { IfOk result (λ at.
+            (at.cell ≡ on.cell) × (at.number ≡ on.number) × IsSpot self.now at) }
     {
-        let node = self.layout.cells.as_slice()[cell].node as usize;
+        let node = self.layout.cells.as_slice()[on.cell].node as usize;
         let place = self.nodes.place(node);
-        let var = self.variable(cell);
-        let piece = piece_at(var, number);
-        let slots = slots_in(alloc, self.slots(cell), &piece.domain)?;
+        let var = self.variable(on.cell);
+        let piece = piece_at(var, on.number);
+        let slots = slots_in(alloc, self.slots(on.cell), &piece.domain)?;
         Ok(Spot {
-            cell,
+            cell: on.cell,
             node,
             place,
             var,
-            number,
+            number: on.number,
             piece,
             slots,
         })
@@ -110,7 +125,7 @@ impl<'a> Array<'a> {
     {
         let mut spots = List::new(alloc);
         for number in 0..self.variable(cell).pieces.as_slice().len() {
-            let spot = self.spot(alloc, cell, number)?;
+            let spot = self.spot(alloc, PieceOn { cell, number })?;
             if !spot.slots.as_slice().is_empty() {
                 spots.push(spot)?;
             }

@@ -14,21 +14,28 @@ pub struct TapReading {
     pub delay: u32,
 }
 
+/// A tap site on a cell: the cell, which reads, and the number of the site among those of its node.
+#[derive(Clone, Copy)]
+pub(crate) struct TapAt {
+    pub(crate) consumer: u32,
+    pub(crate) site: u32,
+}
+
 // The link that begins with a reading.
-fn begun(consumer: u32, site: u32, reading: &TapReading) -> Link
+fn begun(at: TapAt, reading: &TapReading) -> Link
     ensures { result ≡ record {
-      consumer = consumer;
+      consumer = at.consumer;
       producer = reading.now.producer;
-      site = site;
+      site = at.site;
       delay = reading.now.delay;
       first = reading.now.cycle;
       last = reading.now.cycle;
     } }
 {
     Link {
-        consumer,
+        consumer: at.consumer,
         producer: reading.producer,
-        site,
+        site: at.site,
         delay: reading.delay,
         first: reading.cycle,
         last: reading.cycle,
@@ -55,25 +62,24 @@ fn prolonged(link: Link, cycle: u32) -> Link
 
 /// Appends the links of a tap site: the stretches of its readings.
 pub(crate) fn site_links(
-    consumer: u32,
-    site: u32,
+    at: TapAt,
     readings: &[TapReading],
     links: &mut List<Link>,
 ) -> Result<(), Memory>
     requires { AreByCycle readings.now }
     ensures { OnOk result
-        (HasLinks (Told readings.now) (IsAt consumer site) links.old links.new) }
+        (HasLinks (Told readings.now) (IsAt at.consumer at.site) links.old links.new) }
 {
     let Some((first, rest)) = readings.split_first() else {
         return Ok(());
     };
-    let mut last = begun(consumer, site, first);
+    let mut last = begun(at, first);
     for reading in rest {
         if continues(&last, reading) {
             last = prolonged(last, reading.cycle);
         } else {
             links.push(last)?;
-            last = begun(consumer, site, reading);
+            last = begun(at, reading);
         }
     }
     links.push(last)

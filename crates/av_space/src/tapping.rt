@@ -12,25 +12,28 @@ use av_depend::is_computed_at;
 use av_flat::{Helper, ReadingPlace, Timed, Tree, Var, piece_places};
 use std::alloc::Global;
 
+/// A reference of a system: its variable, by the place among all variables, its piece, and its number in the piece.
+#[derive(Clone, Copy)]
+pub(crate) struct ReferenceAt {
+    pub(crate) place: usize,
+    pub(crate) piece: usize,
+    pub(crate) site: u32,
+}
+
 // Whether the helper is of this reference.
-fn is_of(helper: &Helper, place: usize, piece: usize, site: u32) -> bool
-    ensures { result ≡ nat_eq
-        helper.now.var place && nat_eq helper.now.piece piece && nat_eq helper.now.site site }
+fn is_of(helper: &Helper, at: ReferenceAt) -> bool
+    ensures { result ≡ nat_eq helper.now.var at.place
+        && nat_eq helper.now.piece at.piece && nat_eq helper.now.site at.site }
 {
-    helper.var as usize == place && helper.piece as usize == piece && helper.site == site
+    helper.var as usize == at.place && helper.piece as usize == at.piece && helper.site == at.site
 }
 
 /// The first helper of a reference.
-pub(crate) fn helper_at(
-    helpers: &[Helper],
-    place: usize,
-    piece: usize,
-    site: u32,
-) -> Option<Pipeline>
-    ensures { result ≡ helper_at helpers.now place piece site }
+pub(crate) fn helper_at(helpers: &[Helper], at: ReferenceAt) -> Option<Pipeline>
+    ensures { result ≡ helper_at helpers.now at.place at.piece at.site }
 {
     for (number, helper) in helpers.iter().enumerate() {
-        if is_of(helper, place, piece, site) {
+        if is_of(helper, at) {
             return Some(Pipeline {
                 number,
                 direction: Point::from_slice(helper.direction.as_slice()),
@@ -95,7 +98,12 @@ fn add_taps<'a>(
     match place.tree {
         Tree::Ref { var, .. } => {
             let helpers = timed.helpers.as_slice();
-            let pipeline = helper_at(helpers, own, place.piece, place.site);
+            let at = ReferenceAt {
+                place: own,
+                piece: place.piece,
+                site: place.site,
+            };
+            let pipeline = helper_at(helpers, at);
             add_taps_by(is_computed_at(&timed.flat, *var), pipeline, place, sites)
         }
         Tree::Pick { var, .. } => {

@@ -5,8 +5,8 @@ ghost use Rattle.av_flat.specs.Legal.{IsLegal};
 ghost use Rattle.av_flat.specs.Nodes.{nodes, node_place, number_at};
 ghost use Rattle.av_flat.specs.Trees.{view_system, view_variable};
 
-use av_base::{List, Memory};
-use av_flat::{Nodes, Time, Timed, Var, places};
+use av_base::Memory;
+use av_flat::{Nodes, Time, Timed, Var};
 use std::alloc::Global;
 use std::marker::Model;
 
@@ -15,8 +15,6 @@ use std::marker::Model;
 pub(crate) struct TimedNodes<'a> {
     timed: &'a Timed,
     nodes: Nodes<'a>,
-    // Of each node among the variables.
-    places: List<usize>,
 }
 
 impl<'a> Model for TimedNodes<'a> {
@@ -25,8 +23,6 @@ impl<'a> Model for TimedNodes<'a> {
     ghost use Rattle.av_flat.specs.contracts.timed.Timed as made;
     ghost use Rattle.av_flat.specs.declared.timed.Timed.{Timed as TimedSeen};
     ghost use Rattle.av_flat.specs.Legal.{IsLegal};
-    ghost use Rattle.av_flat.specs.Nodes.{places_of};
-    ghost use Rattle.av_flat.specs.Trees.{view_system};
 
     ghost Value = { TimedSeen };
 
@@ -34,8 +30,7 @@ impl<'a> Model for TimedNodes<'a> {
 
     ghost view = { λ it. it.timed.now };
 
-    ghost invariant = { λ it. (it.nodes ≡ it.timed.now.flat)
-        × (it.places ≡ places_of (view_system it.timed.now.flat)) × IsLegal it.timed.now };
+    ghost invariant = { λ it. (it.nodes ≡ it.timed.now.flat) × IsLegal it.timed.now };
 }
 
 impl<'a> TimedNodes<'a> {
@@ -45,12 +40,7 @@ impl<'a> TimedNodes<'a> {
         ensures { IfOk result (λ found. found ≡ timed.now) }
     {
         let nodes = Nodes::new(alloc, &timed.flat)?;
-        let places = places(alloc, &timed.flat)?;
-        Ok(TimedNodes {
-            timed,
-            nodes,
-            places,
-        })
+        Ok(TimedNodes { timed, nodes })
     }
 
     /// The system.
@@ -66,6 +56,15 @@ impl<'a> TimedNodes<'a> {
         ensures legal { IsLegal self.now }
     {
         self.timed.times.as_slice()
+    }
+
+    /// The time of a node.
+    pub(crate) fn time(&self, node: usize) -> &'a Time
+        requires { node < length (nodes (view_system self.now.flat)) }
+        ensures is { slice_get self.now.times node ≡ Some result.now }
+        ensures legal { IsLegal self.now }
+    {
+        &self.timed.times.as_slice()[node]
     }
 
     /// How many nodes there are.
@@ -90,7 +89,7 @@ impl<'a> TimedNodes<'a> {
         requires { node < length (nodes (view_system self.now.flat)) }
         ensures { result ≡ node_place (view_system self.now.flat) node }
     {
-        self.places.as_slice()[node]
+        self.nodes.place(node)
     }
 
     /// The variable of a node.

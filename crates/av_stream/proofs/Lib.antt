@@ -1,5 +1,4 @@
 pub mod Images
-pub mod NodeVariables
 pub mod StandingPoints
 pub mod Quotients
 pub mod CellSpans

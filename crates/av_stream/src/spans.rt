@@ -1,9 +1,8 @@
 //! How many cycles later the next problem may begin on the cells of an array.
 
-ghost use Rattle.std.specs.Prelude.{◌≡◌, ◌<◌, ◌≤◌, length, Some, slice_get};
+ghost use Rattle.std.specs.Prelude.{◌≡◌, ◌≤◌};
 ghost use Rattle.av_flat.specs.Legal.{IsLegal};
-ghost use Rattle.av_flat.specs.Nodes.{nodes};
-ghost use Rattle.av_flat.specs.Trees.{view_system, view_variable};
+ghost use Rattle.av_flat.specs.Trees.{view_system};
 ghost use Rattle.av_space.specs.Quantities.{IsCycleCount};
 ghost use Rattle.av_space.specs.SpaceFaults.{IsSpaceFault};
 ghost use Rattle.av_space.specs.Whole.{IsWhole};
@@ -13,26 +12,8 @@ ghost use Rattle.av_stream.specs.Periods.{HasPeriod};
 ghost use Rattle.av_stream.specs.inner.Standing.{IsUsedIn, HasSpan};
 
 use crate::standing::{matrix_of, stands};
-use av_flat::{Flat, Timed, Var};
+use av_flat::{Timed, variable_of};
 use av_space::{Cell, Cells};
-
-// The variable of a node.
-fn variable_of(flat: &Flat, node: usize) -> &Var
-    requires { node < length (nodes (view_system flat.now)) }
-    ensures { slice_get (nodes (view_system flat.now)) node ≡ Some (view_variable result.now) }
-{
-    let mut left = node;
-    for var in flat.vars.as_slice() {
-        if !var.is_node() {
-            continue;
-        }
-        if left == 0 {
-            return var;
-        }
-        left -= 1;
-    }
-    unreachable!()
-}
 
 // The number of cycles from the first computation of a cell to the last one, both included.
 fn span(timed: &Timed, cycles: u32, cell: &Cell) -> u32

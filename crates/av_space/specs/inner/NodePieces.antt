@@ -7,8 +7,10 @@ use Rattle.av_flat.specs.Points.{has}
 use Rattle.av_flat.specs.Signatures.{signatures, is_input}
 use Rattle.av_flat.specs.WellFormed.{EachPart, Fits, HasSmallRows}
 use Rattle.av_poly.specs.Points.{Set}
+use Rattle.av_space.specs.declared.cells.Cell.{Cell}
 use Rattle.av_space.specs.declared.input_site.InputSite.{InputSite}
 use Rattle.av_space.specs.declared.layout.Slot.{Slot}
+use Rattle.av_space.specs.declared.ports.NodeCells.{NodeCells}
 use Rattle.av_space.specs.declared.ports.NodePiece.{NodePiece}
 use Rattle.av_space.specs.declared.ports.Ports.{Ports}
 use Rattle.av_space.specs.Taps.{helper_at}
@@ -21,6 +23,13 @@ ArePortsOf of n k p ports = ArePortsTo (system_of of) (helpers_of of) (placings_
 
 abbrev pub ArePortsAt : NodePiece → ℕ → ℕ → Ports → Type 0
 ArePortsAt at j p ports = ArePortsTo (system_of at.scheduled.now) (helpers_of at.scheduled.now) (placings_of at.scheduled.now) (cells_of at.scheduled.now) at.node at.number j p ports
+
+-- the cells of a node are those from the first on and before the last
+pub record AreCellsOf (cells : List Cell) (of : NodeCells) : Type 0 where
+  pub first : IsFirstOf cells of.node of.first
+  pub last : IsFirstOf cells (of.node + 1) of.last
+  pub ordered : of.first ≤ of.last
+  pub within : of.last ≤ length cells
 
 -- the computations on these cells are of the node of a piece with this set
 abbrev pub AreOfPiece : List (List Slot) → Set → ℕ → ℕ → Type 0

@@ -6,10 +6,12 @@ use Rattle.av_space.specs.Links.{AreLinks, delay_count}
 use Rattle.av_space.specs.declared.cells.Cells.{Cells}
 use Rattle.av_space.specs.Arrays.{IsArrayOf}
 use Rattle.av_space.specs.Quantities.{IsOperatorCount}
-use Rattle.av_space.specs.inner.Scheduled.{Scheduled, system_of, helpers_of, placings_of, cells_of}
+use Rattle.av_space.specs.inner.Scheduled.{Scheduled, IsScheduled, system_of, helpers_of, placings_of, cells_of}
 
-abbrev pub LinksOf : Scheduled → List Link → Type 0
-LinksOf at links = AreLinks (system_of at) (helpers_of at) (placings_of at) (cells_of at) links
+-- the links of a scheduled system
+pub record LinksOf (at : Scheduled) (links : List Link) : Type 0 where
+  pub scheduled : IsScheduled at
+  pub are : AreLinks (system_of at) (helpers_of at) (placings_of at) (cells_of at) links
 
 abbrev pub delays_of : Scheduled → List Link → ℕ
 delays_of at links = delay_count (system_of at) (helpers_of at) (cells_of at) links

@@ -5,16 +5,18 @@ use Rattle.av_affine.specs.Forms.{IsWithinLimits}
 use Rattle.av_poly.specs.Points.{Set}
 use Rattle.av_tree.specs.Points.{Point}
 use Rattle.av_flat.specs.declared.timed.Helper.{Helper}
-use Rattle.av_flat.specs.Trees.{Tree, Piece, Variable, FlatSystem, reference, pick}
+use Rattle.av_flat.specs.Trees.{Tree, Piece, Variable, FlatSystem, view_variable, reference, pick}
 use Rattle.av_flat.specs.Points.{has}
 use Rattle.av_flat.specs.Nodes.{nodes, node_place}
 use Rattle.av_space.specs.declared.cells.Cell.{Cell}
 use Rattle.av_space.specs.declared.layout.Slot.{Slot}
+use Rattle.av_space.specs.declared.linking.Consumer.{Consumer}
 use Rattle.av_space.specs.declared.stretch.TapReading.{TapReading}
 use Rattle.av_space.specs.Coordinates.{Placing}
 use Rattle.av_space.specs.Occupancy.{Computes}
 use Rattle.av_space.specs.Taps.{Way, each, entries, handed, Tap, taps, IsTapRead}
 use Rattle.av_space.specs.Layouts.{AreSlots}
+use Rattle.av_space.specs.inner.Scheduled.{Scheduled, IsScheduled, system_of, placings_of, cells_of}
 use Rattle.av_space.specs.inner.Stretches.{AreByCycle}
 
 -- ---- sites
@@ -94,6 +96,11 @@ pub record IsConsumer (s : FlatSystem) (placings : List Placing) (cells : List C
   pub node : cell.node ≡ n
   pub are_slots : AreSlots s placings cells p slots
   pub is_variable : slice_get (nodes s) n ≡ Some v
+
+-- a cell of a scheduled system that reads
+pub record IsReader (at : Scheduled) (c : Consumer) : Type 0 where
+  pub scheduled : IsScheduled at
+  pub is : IsConsumer (system_of at) (placings_of at) (cells_of at) c.number c.node (view_variable c.var.now) c.slots.now
 
 -- of each of the first pieces of a variable the computations that are points of it
 pub record AreOwnTo (v : Variable) (slots : List Slot) (n : ℕ) (own : List (List Slot)) : Type 0 where

@@ -10,4 +10,4 @@ loop-k-init g c = Puts-none _ _
 pub loop-k-preserved : goal.loop-k-preserved
 loop-k-preserved g c =
     Puts-is (Puts-more c.loop-k.invariant c.write_cell.ensures)
-    (cell_more (nodes (view_system c.args.flat.now)) c.args.cells.now c.loop-k.k c.index-cells-k-in-loop-k.result c.index-cells-k.result (view_variable c.node_at.result.now) c.loop-k-test.true c.index-cells-k-in-loop-k.is c.node_at.ensures)
+    (cell_more (nodes (view_system c.args.flat.now)) c.args.cells.now c.loop-k.k c.index-cells-k-in-loop-k.result c.index-cells-k.result (view_variable c.variable_of-var.result.now) c.loop-k-test.true c.index-cells-k-in-loop-k.is c.variable_of-var.ensures)

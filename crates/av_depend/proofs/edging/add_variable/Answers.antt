@@ -1,4 +1,4 @@
-use Rattle.std.proofs.Common.{rules, ◌≡◌, ◌∙◌, ◌<◌, ◌≤◌, Option, List, length, get_or, take, sym, ap, subst, arith}
+use Rattle.std.proofs.Common.{rules, ◌≡◌, ℕ, ◌∙◌, ◌<◌, ◌≤◌, Option, List, length, get_or, take, sym, ap, subst, arith}
 use Rattle.std.specs.Option.{IfSome, IfNone}
 use Rattle.std.specs.List.{flat_map}
 use Rattle.av_poly.specs.declared.poly.Bounds.{Bounds}
@@ -107,7 +107,8 @@ loop-piece-preserved c =
     let old = c.args.edges.now in
     let new = c.add_tree.new.edges in
     let l : c.loop-piece.piece-index < length xs = search rules in
-    let one = subst (λ (set : Set). HasAdded s (sites_in c.args.node set (view x.tree)) c.loop-piece.edges new) c.in_ok-reading.ensures.set c.in_ok-add_tree.ensures in
+    let one = subst (λ (n : ℕ). HasAdded s (sites_in n x.domain (view x.tree)) c.loop-piece.edges new) c.in_ok-reading.ensures.node
+    (subst (λ (set : Set). HasAdded s (sites_in c.in_ok-reading.reading.node set (view x.tree)) c.loop-piece.edges new) c.in_ok-reading.ensures.set c.in_ok-add_tree.ensures) in
     subst (λ (places : List Site). HasAdded s places old new) (sym (flat_take_more f xs c.loop-piece.piece-index x l c.piece-item.is))
     (added_both s (flat_map f (take c.loop-piece.piece-index xs)) (f x) old c.loop-piece.edges new c.loop-piece.invariant one)
 

@@ -30,7 +30,7 @@ add_place-requires-clause-fits c =
 pub loop-place-preserved : goal.loop-place-preserved
 loop-place-preserved c =
     let s = view_system c.args.nodes.now in
-    let f = λ (p : PlaceMade). sites_at c.args.node c.args.reading.now.set (view p.tree) in
+    let f = λ (p : PlaceMade). sites_at c.args.reading.now.node c.args.reading.now.set (view p.tree) in
     let items = c.as_slice-place-items.result.now in
     let x = c.place-item.result in
     let old = c.args.edges.now in
@@ -43,10 +43,10 @@ pub returns : goal.returns
 returns c =
     let s = view_system c.args.nodes.now in
     let set = c.args.reading.now.set in
-    let f = λ (p : PlaceMade). sites_at c.args.node set (view p.tree) in
-    let g = λ (p : Place). sites_at c.args.node set p.tree in
+    let f = λ (p : PlaceMade). sites_at c.args.reading.now.node set (view p.tree) in
+    let g = λ (p : Place). sites_at c.args.reading.now.node set p.tree in
     let items = c.as_slice-place-items.result.now in
     let over : length items ≤ c.loop-place.place-index = search rules in
     let are : map place_of items ≡ places_in 0 0 (view c.args.tree.now) = ap (λ (ps : List PlaceMade). map place_of ps) c.as_slice-place-items.ensures ∙ c.in_ok-places.ensures in
-    let whole = ap (flat_map f) (take_whole items c.loop-place.place-index over) ∙ sym (flat_map-map g place_of items) ∙ ap (flat_map g) are ∙ sites_gathered c.args.node set 0 0 (view c.args.tree.now) in
+    let whole = ap (flat_map f) (take_whole items c.loop-place.place-index over) ∙ sym (flat_map-map g place_of items) ∙ ap (flat_map g) are ∙ sites_gathered c.args.reading.now.node set 0 0 (view c.args.tree.now) in
     subst (λ (sites : List Site). HasAdded s sites c.args.edges.now c.loop-place.edges) whole c.loop-place.invariant

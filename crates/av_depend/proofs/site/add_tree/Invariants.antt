@@ -6,4 +6,4 @@ use Rattle.av_depend.specs.inner.Adding.{HasAdded, sites_at}
 use Rattle.av_depend.proofs.site.add_tree.Given as goal
 
 abbrev pub invariant-loop-place : goal.invariant-loop-place
-invariant-loop-place l = HasAdded (view_system l.nodes) (flat_map (λ (p : PlaceMade). sites_at l.node l.reading.set (view p.tree)) (take l.place-index l.place-items)) l.initial.edges l.edges
+invariant-loop-place l = HasAdded (view_system l.nodes) (flat_map (λ (p : PlaceMade). sites_at l.reading.node l.reading.set (view p.tree)) (take l.place-index l.place-items)) l.initial.edges l.edges

@@ -13,6 +13,6 @@ generators-requires-clause-points c =
 pub returns-clause-reading : goal.returns-clause-reading
 returns-clause-reading c =
     let small = small_points c.args.domain.now c.args.extent.now c.in_ok-points.points c.requires.few c.requires.low c.requires.high c.requires.inside c.in_ok-points.ensures in
-    let made : Set → ReadingSet = λ set. record { set = set; points = c.in_ok-points.points; generators = c.in_ok-generators.generators } in
+    let made : Set → ReadingSet = λ set. record { node = c.args.node; set = set; points = c.in_ok-points.points; generators = c.in_ok-generators.generators } in
     let own : IsReadingSet (made c.args.domain.now) = record { small = small; points = c.in_ok-points.ensures; generators = c.in_ok-generators.ensures } in
     subst (λ (set : Set). IsReadingSet (made set)) (sym c.in_ok-set.ensures) own

@@ -1,6 +1,7 @@
-use Rattle.std.proofs.Common.{rules, ◌≡◌, ◌∙◌, ◌<◌, ℕ, Some, length, take, true, sym, ap, subst}
+use Rattle.std.proofs.Common.{rules, ◌≡◌, ◌∙◌, ◌<◌, ℕ, Some, length, take, true, sym, ap, subst, arith}
 use Rattle.std.specs.Prelude.{slice_get, filter}
 use Rattle.std.proofs.lemmas.List.{take-map}
+use Rattle.std.proofs.lemmas.Grind.{common_steps}
 use Rattle.av_flat.specs.Trees.{view_variable, view_system}
 use Rattle.av_flat.specs.Nodes.{is_node, nodes}
 use Rattle.av_flat.proofs.Cycles.{node_at}
@@ -19,3 +20,9 @@ returns-then-count-node-clause-is c =
     let q : c.loop-k.count ≡ c.args.node = search rules in
     let e : length (filter is_node (take k s.variables)) ≡ c.args.node = ap (λ xs. length (filter is_node xs)) (take-map view_variable k c.args.flat.now.vars) ∙ sym c.loop-k.invariant.so_far ∙ q in
     subst (λ (i : ℕ). slice_get (nodes s) i ≡ Some (view_variable a)) e n ∙ sym at
+
+pub loop-k-preserved : goal.loop-k-preserved
+loop-k-preserved c = grind (arith, common_steps)
+
+pub loop-k-preserved-then-not-is_node : goal.loop-k-preserved-then-not-is_node
+loop-k-preserved-then-not-is_node c = grind (arith, common_steps)

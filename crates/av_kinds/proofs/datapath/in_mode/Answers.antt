@@ -1,4 +1,5 @@
-use Rattle.std.proofs.Common.{◌≡◌, ◌+◌, ◌-◌, ◌<◌, length, rules}
+use Rattle.std.proofs.Common.{◌≡◌, ◌+◌, ◌-◌, ◌<◌, length, rules, arith}
+use Rattle.std.proofs.lemmas.Grind.{common_steps}
 use Rattle.av_kinds.specs.inner.Numbered.{wire_in}
 use Rattle.av_kinds.proofs.Steps.{guard_added}
 use Rattle.av_kinds.proofs.datapath.in_mode.Goals as goal
@@ -15,3 +16,6 @@ loop-k-preserved c =
           c.args.second c.args.first guards j c.loop-k.k c.index-guards-k.result c.loop-k.root c.in_ok-root.root c.loop-k.first-1 guarded.second
           next within c.index-guards-k.is c.loop-k.invariant.1 guarded.on_wire c.loop-k.invariant.0 guarded.chosen,
     )
+
+pub loop-k-init : goal.loop-k-init
+loop-k-init c = grind (arith, common_steps)

@@ -1,4 +1,5 @@
-use Rattle.std.proofs.Common.{◌≡◌, ◌+◌, ◌-◌, ◌<◌, length, ap, rules, subst}
+use Rattle.std.proofs.Common.{◌≡◌, ◌+◌, ◌-◌, ◌<◌, length, ap, rules, subst, arith}
+use Rattle.std.proofs.lemmas.Grind.{common_steps}
 use Rattle.av_kinds.specs.inner.Cells.{datapath_built}
 use Rattle.av_kinds.specs.inner.Numbered.{wire_in}
 use Rattle.av_kinds.specs.inner.Added.{AddsBuilt, DatapathMade, GuardedDatapathMade, as_datapath}
@@ -21,3 +22,9 @@ loop-k-preserved c =
     shift_added name w c.args.counter.now c.args.gates.now.items c.loop-k.gates.items g2 g3 g4 c.in_mode.new.gates.items
     (as_datapath c.args.lane.now.otherwise) modes j c.loop-k.k x c.loop-k.root c.in_ok-own.own c.in_ok-root-2.root c.in_ok-first.first c.in_ok-second.second
     next within c.index-modes-k.is c.loop-k.invariant c.in_ok-second.ensures own c.in_ok-first.ensures c.in_ok-root-2.ensures
+
+pub piece-requires-in-loop-k : goal.piece-requires-in-loop-k
+piece-requires-in-loop-k c = grind (arith, common_steps)
+
+pub loop-k-init : goal.loop-k-init
+loop-k-init c = grind (arith, common_steps)

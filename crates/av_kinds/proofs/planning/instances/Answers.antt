@@ -1,6 +1,7 @@
 use Rattle.std.proofs.Common.{◌≡◌, ◌∙◌, ◌<◌, ℕ, List, length, map, get_or, sym, subst, ap, arith, rules}
 use Rattle.std.proofs.lemmas.Option.{slice_get-get_or}
 use Rattle.std.specs.Prelude.{Some, slice_get}
+use Rattle.std.proofs.lemmas.Grind.{common_steps, elements}
 use Rattle.av_kinds.specs.Written.{ProgramMade, program_of}
 use Rattle.av_kinds.specs.Programs.{lanes_of}
 use Rattle.av_kinds.specs.Names.{labels}
@@ -89,3 +90,9 @@ loop-cell-preserved c =
     (omega (arith, below, c.requires.program.kinds)) below is small read c.loop-cell.invariant
     (λ own is_cell. c.in_ok-own.ensures own is_cell ∙ ap (λ (xs : List LaneShapeMade). instance_by (labels P) (counter_name c.args.counter) p k own.first (map lane_shape_of xs) (lanes_of P own)) c.as_slice-shape.ensures)
     c.in_ok-push.ensures.ok
+
+pub overflow_cast-number : goal.overflow_cast-number
+overflow_cast-number c = grind (arith, elements)
+
+pub returns : goal.returns
+returns c = grind (arith, common_steps)

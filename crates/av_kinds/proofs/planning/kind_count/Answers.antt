@@ -1,4 +1,5 @@
 use Rattle.std.proofs.Common.{◌≡◌, ◌∙◌, ◌+◌, ◌<◌, ℕ, List, length, get_or, max, ap, arith, rules}
+use Rattle.std.proofs.lemmas.Grind.{common_steps}
 use Rattle.av_kinds.specs.Written.{ProgramMade, program_of}
 use Rattle.av_kinds.proofs.PlanSteps.{kind_counted, kind_small}
 use Rattle.av_kinds.proofs.planning.kind_count.Goals as goal
@@ -21,3 +22,9 @@ overflow_add-kind c =
     let within : k < length c.as_slice-kind-items.result.now = search rules in
     let below : k < length kinds = omega (arith, within, ap (λ (xs : List ℕ). length xs) items) in
     omega (arith, kind_small (program_of c.args.program.now) c.requires k below, ap (λ (xs : List ℕ). get_or xs k 0) items, c.len.ensures.most, ap (λ (xs : List ℕ). length xs) own)
+
+pub returns : goal.returns
+returns c = grind (arith, common_steps)
+
+pub loop-kind-init : goal.loop-kind-init
+loop-kind-init c = grind (arith, common_steps)

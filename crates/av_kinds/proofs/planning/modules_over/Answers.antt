@@ -1,3 +1,5 @@
+use Rattle.std.proofs.Common.{arith}
+use Rattle.std.proofs.lemmas.Grind.{elements}
 use Rattle.av_kinds.specs.Written.{program_of}
 use Rattle.av_kinds.proofs.NetlistsMade.{made_netlists}
 use Rattle.av_kinds.proofs.FormMade.{made_form}
@@ -19,3 +21,6 @@ returns-clause-form c =
     (modules_made c.args.counter (program_of c.args.program.now) shapes c.as_slice-2.result.now c.as_slice.result.now c.in_ok-kinds.kinds c.in_ok-top.top c.in_ok-instances.instances c.some_counts-counting.result
     c.as_slice-2.ensures c.as_slice.ensures c.requires.shapes c.some_counts-counting.ensures c.in_ok-kinds.ensures.are c.in_ok-top.ensures c.in_ok-instances.ensures)
     c.in_ok-kinds.ensures.small
+
+pub top-requires-clause-outputs : goal.top-requires-clause-outputs
+top-requires-clause-outputs c = grind (arith, elements)

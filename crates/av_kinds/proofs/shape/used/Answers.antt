@@ -1,5 +1,6 @@
-use Rattle.av_kinds.proofs.ShapeSteps.{used_put}
 use Rattle.std.proofs.Common.{◌≡◌, ◌∙◌, ◌<◌, List, ap, arith, rules, map, length, get_or, filter}
+use Rattle.std.proofs.lemmas.Grind.{common_steps}
+use Rattle.av_kinds.proofs.ShapeSteps.{used_put}
 use Rattle.av_kinds.specs.inner.Shapes.{ModeShapeMade, LaneShapeMade, mode_shape_of}
 use Rattle.av_kinds.specs.inner.Shaped.{is_used}
 use Rattle.av_kinds.proofs.shape.used.Goals as goal
@@ -13,3 +14,6 @@ loop-mode-preserved c =
     let within : k < length c.as_slice-mode-items.result.now = search rules in
     used_put all k x c.loop-mode.modes c.add_used.new.modes (filter is_used (map mode_shape_of all)) (omega (arith, within, ap (λ (xs : List ModeShapeMade). length xs) items)) (c.mode-item.is ∙ ap (λ (xs : List ModeShapeMade). get_or xs k x) items)
     c.loop-mode.invariant c.in_ok-add_used.ensures
+
+pub returns : goal.returns
+returns c = grind (arith, common_steps)

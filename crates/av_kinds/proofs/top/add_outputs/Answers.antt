@@ -1,4 +1,5 @@
 use Rattle.std.proofs.Common.{◌≡◌, ◌∙◌, ◌++◌, ℕ, ◌<◌, List, length, get_or, ap, rules, arith}
+use Rattle.std.proofs.lemmas.Grind.{common_steps}
 use Rattle.av_kinds.specs.Written.{ProgramMade, program_of}
 use Rattle.av_kinds.specs.Names.{labels}
 use Rattle.av_kinds.specs.Tops.{output_drives}
@@ -20,3 +21,6 @@ loop-number-preserved c =
     output_put names outputs n q c.loop-number.drives c.push.new.self (c.args.drives.now ++ output_drives names 0 outputs) (drive_of c.in_ok-numbered.field-0 (Plain (Name c.in_ok-name.name)))
     below (ap (λ (xs : List ℕ). get_or xs n 0) items) c.loop-number.invariant
     (ap (λ (t : List ℕ). drive_of t (Plain (Name c.in_ok-name.name))) c.in_ok-numbered.ensures ∙ ap (output_drive n) (c.in_ok-name.ensures ∙ c.lane_names.ensures.value)) c.in_ok-push.ensures.ok
+
+pub lane_names-requires : goal.lane_names-requires
+lane_names-requires c = grind (arith, common_steps)

@@ -1,5 +1,6 @@
 use Rattle.std.proofs.Common.{◌≡◌, ◌∙◌, ◌<◌, ℕ, List, length, get_or, ap, sym, subst, arith, rules}
 use Rattle.std.proofs.lemmas.Option.{slice_get-get_or}
+use Rattle.std.proofs.lemmas.Grind.{common_steps}
 use Rattle.av_base.proofs.Lists.{each_at}
 use Rattle.av_kinds.specs.Written.{LaneMade, ProgramMade}
 use Rattle.av_kinds.proofs.TopSteps.{width_put}
@@ -19,3 +20,9 @@ loop-number-preserved c =
     let x = c.index-lanes-number.result in
     width_put program program.outputs n q x c.loop-number.widths c.push.new.self c.lane.inside.width below same there (c.index-lanes-number.is ∙ ap (λ (xs : List LaneMade). get_or xs q x) all)
     c.loop-number.invariant (ap (λ (l : LaneMade). l.width) c.lane.view_is) c.in_ok-push.ensures.ok
+
+pub bounds-lanes-number : goal.bounds-lanes-number
+bounds-lanes-number c = grind (arith, common_steps)
+
+pub offset_bounds-lanes-number : goal.offset_bounds-lanes-number
+offset_bounds-lanes-number c = grind (arith, common_steps)

@@ -8,6 +8,6 @@ use Rattle.av_pipe.proofs.site.reference_helpers.Given as goal
 -- those so far and those to come are all
 abbrev pub invariant-loop-site : goal.invariant-loop-site
 invariant-loop-site l = record {
-  fine : AllByRecursion (λ (r : Reference). IsFineMap l.points r.map) (drop l.site l.found);
-  made : l.helpers ++ of_references l.place l.piece l.linear l.site (drop l.site l.found) ≡ l.initial.helpers ++ of_references l.place l.piece l.linear 0 l.found;
+  fine : AllByRecursion (λ (r : Reference). IsFineMap l.piece.points.now r.map) (drop l.site l.found);
+  made : l.helpers ++ of_references l.piece.place l.piece.number l.piece.linear.now l.site (drop l.site l.found) ≡ l.initial.helpers ++ of_references l.piece.place l.piece.number l.piece.linear.now 0 l.found;
 }

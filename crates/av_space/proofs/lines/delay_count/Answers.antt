@@ -28,12 +28,15 @@ line_of-line-requires-clause-sites c =
     let sites = c.in_ok-sites.sites in
     subst (AreNodeTaps (view_system t.flat) t.helpers) (sym c.as_slice.ensures) (subst (λ (u : Timed). AreNodeTaps (view_system u.flat) u.helpers sites) c.timed.ensures.is c.in_ok-sites.ensures)
 
+pub line_of-line-requires-clause-link : goal.line_of-line-requires-clause-link
+line_of-line-requires-clause-link c = c.requires.are.each c.loop-link.link-index none c.loop-link-test.true
+
 pub loop-link-preserved : goal.loop-link-preserved
 loop-link-preserved c =
     let inv = c.loop-link.invariant in
     let b = c.in_ok-lengthened.ensures.by in
     let e = c.from.ensures in
-    let r = one_link_more c.args.scheduled.now.timed c.timed.ensures.scheduled.legal c.args.scheduled.now.layout.placements c.args.scheduled.now.layout.cells c.args.links.now c.requires c.loop-link.link-index none c.loop-link-test.true
+    let r = one_link_more c.args.scheduled.now.timed c.timed.ensures.scheduled.legal c.args.scheduled.now.layout.placements c.args.scheduled.now.layout.cells c.args.links.now c.requires.are c.loop-link.link-index none c.loop-link-test.true
     c.loop-link.lengths c.lengthened.new.lengths c.line_of-line.result c.line_of-line.ensures (get_or c.args.links.now c.loop-link.link-index none).delay refl inv.lengths c.loop-link.count c.from.result inv.count (e ∙ b) c.in_ok-lengthened.ensures.all in
     let few = c.in_ok-lengthened.ensures.small in
     record { lengths = r.0; count = r.1; small = (let s = inv.small in omega (arith, s, few, e)) }

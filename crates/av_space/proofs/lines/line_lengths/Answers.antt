@@ -23,7 +23,7 @@ line_of-line-requires-clause-sites c =
     subst (AreNodeTaps (view_system t.flat) t.helpers) (sym c.as_slice.ensures) (subst (λ (u : Timed). AreNodeTaps (view_system u.flat) u.helpers sites) c.timed.ensures.is c.in_ok-sites.ensures)
 
 pub line_of-line-requires-clause-link : goal.line_of-line-requires-clause-link
-line_of-line-requires-clause-link c = c.requires.each c.loop-link.link-index none c.loop-link-test.true
+line_of-line-requires-clause-link c = c.requires.are.each c.loop-link.link-index none c.loop-link-test.true
 
 pub loop-link-preserved : goal.loop-link-preserved
 loop-link-preserved c =

@@ -32,7 +32,7 @@ returns c =
     of_others (IsTapped s hs placings cells) (IsAmong p c.loop-number.number) (IsOn p) c.args.links.now c.loop-number.links (λ k i a. a.0)
     (λ k j i q d e t.
     let here = subst (λ (a : ℕ). IsTapped s hs placings cells a j i q d) e t in
-    let low = few_sites s hs placings cells p c.args.consumer.now.node (view_variable c.args.consumer.now.var.now) c.args.consumer.now.slots.now c.requires.consumer j i q d here in
+    let low = few_sites s hs placings cells p c.args.consumer.now.node (view_variable c.args.consumer.now.var.now) c.args.consumer.now.slots.now c.requires.consumer.is j i q d here in
     let size = length-map c.args.sites.now tap_of in
     let many = ap (λ (ts : List Tap). length ts) c.requires.sites in
     let done : c.len-number-end.result ≤ c.loop-number.number = search rules in

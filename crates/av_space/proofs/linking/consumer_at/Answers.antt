@@ -29,9 +29,12 @@ returns-clause-consumer c =
     let at : slice_get slots k ≡ Some c.index-slots-number.result = slice_get-get_or slots k c.index-slots-number.result low ∙ ap Some (sym c.index-slots-number.is) in
     let own : slice_get c.args.scheduled.now.layout.slots k ≡ Some c.as_slice.result.now = subst (λ (l : List (List Slot)). slice_get l k ≡ Some c.index-slots-number.result) c.slots.ensures.is at ∙ ap Some (sym c.as_slice.ensures) in
     record {
-      cell = get_or cells k d;
-      is_cell = slice_get-get_or cells k d c.requires;
-      node = ap (λ (x : Cell). x.node) same;
-      are_slots = c.cells.ensures.scheduled.layout.are_slots k c.as_slice.result.now own;
-      is_variable = c.variable.ensures;
+      scheduled = c.cells.ensures.scheduled;
+      is = record {
+        cell = get_or cells k d;
+        is_cell = slice_get-get_or cells k d c.requires;
+        node = ap (λ (x : Cell). x.node) same;
+        are_slots = c.cells.ensures.scheduled.layout.are_slots k c.as_slice.result.now own;
+        is_variable = c.variable.ensures;
+      };
     }

@@ -12,12 +12,12 @@ use Rattle.av_space.proofs.SlotReadings.{listed, next_slot}
 use Rattle.av_space.proofs.linking.readings.Goals as goal
 use Rattle.av_space.proofs.linking.readings.Goals.{in-Some+in_ok-push, in_default}
 
-pub reading_at-requires-clause-site : goal.reading_at-requires-clause-site
-reading_at-requires-clause-site c =
+pub reading_at-requires : goal.reading_at-requires
+reading_at-requires c =
     let slots = c.args.slots.now in
     let i = c.loop-slot.slot-index in
     let slot = c.slot-item.result in
-    let whole = c.requires.site in
+    let whole = c.requires in
     let here : Contains slots slot = (i, c.loop-slot-test.true, sym c.slot-item.is) in
     let among = (from_filter (λ (x : Slot). has c.args.piece.now.domain x.point) whole.slots slot (subst (λ (ts : List Slot). Contains ts slot) whole.own_is here)).0 in
     (whole.slots, among, whole.site)
@@ -31,7 +31,7 @@ loop-slot-preserved c =
     let piece = view_piece c.args.piece.now in
     let slots = c.args.slots.now in
     let rs = c.loop-slot.readings in
-    let whole = c.requires.site in
+    let whole = c.requires in
     let order : AllPairs (λ a b. a.cycle < b.cycle) slots =
     subst (AllPairs (λ (a b : Slot). a.cycle < b.cycle)) (sym whole.own_is) (AllPairs-filter (λ (a b : Slot). a.cycle < b.cycle) (λ (x : Slot). has piece.domain x.point) whole.slots whole.site.is.are_slots.order) in
     let next = next_slot s placings cells c.args.node t piece slots c.loop-slot.slot-index c.slot-item.result c.loop-slot-test.true c.slot-item.is order rs c.loop-slot.invariant c.reading_at.result c.reading_at.ensures.cycle c.reading_at.ensures.reading in

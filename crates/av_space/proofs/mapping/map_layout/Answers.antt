@@ -7,7 +7,7 @@ use Rattle.av_space.specs.declared.fault.SpaceFault.TheVariants as fault
 use Rattle.av_space.specs.Layouts.{IsLayout}
 use Rattle.av_space.specs.SpaceFaults.{IsSpaceFault}
 use Rattle.av_space.specs.Whole.{IsWhole}
-use Rattle.av_space.specs.inner.Scheduled.{Scheduled, IsScheduled}
+use Rattle.av_space.specs.inner.Scheduled.{Scheduled}
 use Rattle.av_space.proofs.mapping.map_layout.Goals as goal
 
 pub new-scheduled-requires-clause-legal : goal.new-scheduled-requires-clause-legal
@@ -15,11 +15,6 @@ new-scheduled-requires-clause-legal c = subst IsLegal (sym c.in_ok-nodes.ensures
 
 pub new-scheduled-requires-clause-layout : goal.new-scheduled-requires-clause-layout
 new-scheduled-requires-clause-layout c = subst (λ (t : Timed). IsLayout t c.args.layout.now) (sym c.in_ok-nodes.ensures) c.requires.layout
-
-pub mapped-requires : goal.mapped-requires
-mapped-requires c =
-    let same = c.new-scheduled.ensures ∙ ap (λ (t : Timed). record { timed = t; layout = c.args.layout.now }) c.in_ok-nodes.ensures in
-    subst IsScheduled (sym same) (record { legal = c.requires.legal; layout = c.requires.layout })
 
 pub returns-clause-whole : goal.returns-clause-whole
 returns-clause-whole c =

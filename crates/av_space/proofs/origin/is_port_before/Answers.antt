@@ -1,6 +1,5 @@
 use Rattle.std.proofs.Common.{get_or}
 use Rattle.std.proofs.lemmas.Option.{slice_get-get_or}
-use Rattle.av_space.specs.declared.cells.InPort.{InPort}
 use Rattle.av_space.specs.Ports.{IsPortBefore}
 use Rattle.av_space.proofs.PortOrder.{by_nodes, by_pieces, by_sites, by_cells, as_test}
 use Rattle.av_space.proofs.origin.is_port_before.Goals as goal
@@ -8,39 +7,39 @@ use Rattle.av_space.proofs.origin.is_port_before.Goals as goal
 pub returns-then-node-other : goal.returns-then-node-other
 returns-then-node-other c =
     let cells = c.args.cells.now in
-    let a = c.args.port.now in
-    let own : InPort = record { cell = c.args.cell; piece = c.args.piece; site = c.args.site } in
-    let x = get_or cells a.cell c.index-cells-port.result in
-    let y = get_or cells own.cell c.index-cells-cell.result in
-    as_test x.node y.node (IsPortBefore cells a own)
-    (by_nodes cells a own x y (slice_get-get_or cells a.cell c.index-cells-port.result c.requires.first) (slice_get-get_or cells own.cell c.index-cells-cell.result c.requires.second) c.if-node-other.true)
+    let a = c.args.a.now in
+    let b = c.args.b.now in
+    let x = get_or cells a.cell c.index-cells-a.result in
+    let y = get_or cells b.cell c.index-cells-b.result in
+    as_test x.node y.node (IsPortBefore cells a b)
+    (by_nodes cells a b x y (slice_get-get_or cells a.cell c.index-cells-a.result c.requires.first) (slice_get-get_or cells b.cell c.index-cells-b.result c.requires.second) c.if-node-other.true)
 
-pub returns-then-own_piece-piece : goal.returns-then-own_piece-piece
-returns-then-own_piece-piece c =
+pub returns-then-a-b : goal.returns-then-a-b
+returns-then-a-b c =
     let cells = c.args.cells.now in
-    let a = c.args.port.now in
-    let own : InPort = record { cell = c.args.cell; piece = c.args.piece; site = c.args.site } in
-    let x = get_or cells a.cell c.index-cells-port.result in
-    let y = get_or cells own.cell c.index-cells-cell.result in
-    as_test a.piece own.piece (IsPortBefore cells a own)
-    (by_pieces cells a own x y (slice_get-get_or cells a.cell c.index-cells-port.result c.requires.first) (slice_get-get_or cells own.cell c.index-cells-cell.result c.requires.second) c.if-node-other.false c.if-own_piece-piece.true)
+    let a = c.args.a.now in
+    let b = c.args.b.now in
+    let x = get_or cells a.cell c.index-cells-a.result in
+    let y = get_or cells b.cell c.index-cells-b.result in
+    as_test a.piece b.piece (IsPortBefore cells a b)
+    (by_pieces cells a b x y (slice_get-get_or cells a.cell c.index-cells-a.result c.requires.first) (slice_get-get_or cells b.cell c.index-cells-b.result c.requires.second) c.if-node-other.false c.if-a-b.true)
 
-pub returns-then-port-site : goal.returns-then-port-site
-returns-then-port-site c =
+pub returns-then-a-b-2 : goal.returns-then-a-b-2
+returns-then-a-b-2 c =
     let cells = c.args.cells.now in
-    let a = c.args.port.now in
-    let own : InPort = record { cell = c.args.cell; piece = c.args.piece; site = c.args.site } in
-    let x = get_or cells a.cell c.index-cells-port.result in
-    let y = get_or cells own.cell c.index-cells-cell.result in
-    as_test a.site own.site (IsPortBefore cells a own)
-    (by_sites cells a own x y (slice_get-get_or cells a.cell c.index-cells-port.result c.requires.first) (slice_get-get_or cells own.cell c.index-cells-cell.result c.requires.second) c.if-node-other.false c.if-own_piece-piece.false c.if-port-site.true)
+    let a = c.args.a.now in
+    let b = c.args.b.now in
+    let x = get_or cells a.cell c.index-cells-a.result in
+    let y = get_or cells b.cell c.index-cells-b.result in
+    as_test a.site b.site (IsPortBefore cells a b)
+    (by_sites cells a b x y (slice_get-get_or cells a.cell c.index-cells-a.result c.requires.first) (slice_get-get_or cells b.cell c.index-cells-b.result c.requires.second) c.if-node-other.false c.if-a-b.false c.if-a-b-2.true)
 
 pub returns : goal.returns
 returns c =
     let cells = c.args.cells.now in
-    let a = c.args.port.now in
-    let own : InPort = record { cell = c.args.cell; piece = c.args.piece; site = c.args.site } in
-    let x = get_or cells a.cell c.index-cells-port.result in
-    let y = get_or cells own.cell c.index-cells-cell.result in
-    as_test a.cell own.cell (IsPortBefore cells a own)
-    (by_cells cells a own x y (slice_get-get_or cells a.cell c.index-cells-port.result c.requires.first) (slice_get-get_or cells own.cell c.index-cells-cell.result c.requires.second) c.if-node-other.false c.if-own_piece-piece.false c.if-port-site.false)
+    let a = c.args.a.now in
+    let b = c.args.b.now in
+    let x = get_or cells a.cell c.index-cells-a.result in
+    let y = get_or cells b.cell c.index-cells-b.result in
+    as_test a.cell b.cell (IsPortBefore cells a b)
+    (by_cells cells a b x y (slice_get-get_or cells a.cell c.index-cells-a.result c.requires.first) (slice_get-get_or cells b.cell c.index-cells-b.result c.requires.second) c.if-node-other.false c.if-a-b.false c.if-a-b-2.false)

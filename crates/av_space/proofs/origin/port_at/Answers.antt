@@ -24,13 +24,12 @@ pub loop-low-preserved-then-is_port_before : goal.loop-low-preserved-then-is_por
 loop-low-preserved-then-is_port_before c =
     let cells = c.args.cells.now in
     let ports = c.args.ports.now in
-    let own : InPort = record { cell = c.args.cell; piece = c.args.piece; site = c.args.site } in
     let low = c.loop-low.low in
     let high = c.loop-low.high in
     let m = low + (high - low) / 2 in
     let h = halved low high (length ports) c.loop-low-test.true c.loop-low.invariant.fits in
     record {
-      between = higher InPort (IsPortBefore cells) (ports_in_turn cells) ports own c.requires.order (get_or ports m none) low high m (slice_get-get_or ports m none h.1) (c.is_port_before.ensures.0 c.if-is_port_before.true) c.loop-low.invariant.between;
+      between = higher InPort (IsPortBefore cells) (ports_in_turn cells) ports c.args.port.now c.requires.order (get_or ports m none) low high m (slice_get-get_or ports m none h.1) (c.is_port_before.ensures.0 c.if-is_port_before.true) c.loop-low.invariant.between;
       fits = c.loop-low.invariant.fits;
     }
 
@@ -38,7 +37,6 @@ pub loop-low-preserved : goal.loop-low-preserved
 loop-low-preserved c =
     let cells = c.args.cells.now in
     let ports = c.args.ports.now in
-    let own : InPort = record { cell = c.args.cell; piece = c.args.piece; site = c.args.site } in
     let low = c.loop-low.low in
     let high = c.loop-low.high in
     let m = low + (high - low) / 2 in
@@ -46,11 +44,10 @@ loop-low-preserved c =
     let f = c.if-is_port_before.false in
     let k = h.1 in
     record {
-      between = lower InPort (IsPortBefore cells) (ports_in_turn cells) ports own c.requires.order (get_or ports m none) low high m (slice_get-get_or ports m none h.1) (λ b. let t = c.is_port_before.ensures.1 b in cc) c.loop-low.invariant.between;
+      between = lower InPort (IsPortBefore cells) (ports_in_turn cells) ports c.args.port.now c.requires.order (get_or ports m none) low high m (slice_get-get_or ports m none h.1) (λ b. let t = c.is_port_before.ensures.1 b in cc) c.loop-low.invariant.between;
       fits = omega (arith, k);
     }
 
 pub returns : goal.returns
 returns c =
-    let own : InPort = record { cell = c.args.cell; piece = c.args.piece; site = c.args.site } in
-    found InPort (IsPortBefore c.args.cells.now) (ports_in_turn c.args.cells.now) c.args.ports.now own c.requires.order c.loop-low.low c.loop-low.high c.loop-low-test.false c.requires.there c.loop-low.invariant.between
+    found InPort (IsPortBefore c.args.cells.now) (ports_in_turn c.args.cells.now) c.args.ports.now c.args.port.now c.requires.order c.loop-low.low c.loop-low.high c.loop-low-test.false c.requires.there c.loop-low.invariant.between

@@ -5,7 +5,7 @@ use Rattle.av_space.proofs.origin.port_at.Given as goal
 
 abbrev pub invariant-loop-low : goal.invariant-loop-low
 invariant-loop-low l = record {
-  between : IsBetween InPort l.ports (record { cell = l.cell; piece = l.piece; site = l.site }) l.low l.high;
+  between : IsBetween InPort l.ports l.port l.low l.high;
   fits : l.high ≤ length l.ports;
 }
 

@@ -14,12 +14,15 @@ pub slots_of_piece-requires-clause-slots : goal.slots_of_piece-requires-clause-s
 slots_of_piece-requires-clause-slots c =
     let r = c.requires in
     let set = c.piece_at-piece.result.now.domain in
-    subst (λ (rows : List (List Slot)). AreOfPiece rows set c.args.first c.args.last) (sym c.slots.ensures.is)
-    (are_of_piece c.args.scheduled.now.timed c.args.scheduled.now.layout c.args.node c.loop-number.number c.args.first c.args.last (view_variable c.variable-var.result.now) (view_piece c.piece_at-piece.result.now) c.slots.ensures.scheduled.legal c.slots.ensures.scheduled.layout c.variable-var.ensures c.piece_at-piece.ensures
-    r.first r.last r.within)
+    subst (λ (rows : List (List Slot)). AreOfPiece rows set c.args.cells.first c.args.cells.last) (sym c.slots.ensures.is)
+    (are_of_piece c.args.scheduled.now.timed c.args.scheduled.now.layout c.args.cells.node c.loop-number.number c.args.cells.first c.args.cells.last (view_variable c.variable-var.result.now) (view_piece c.piece_at-piece.result.now) c.slots.ensures.scheduled.legal c.slots.ensures.scheduled.layout c.variable-var.ensures c.piece_at-piece.ensures
+    r.cells.first r.cells.last r.cells.within)
+
+pub slots_of_piece-requires-clause-ordered : goal.slots_of_piece-requires-clause-ordered
+slots_of_piece-requires-clause-ordered c = c.requires.cells.ordered
 
 pub slots_of_piece-requires-clause-within : goal.slots_of_piece-requires-clause-within
-slots_of_piece-requires-clause-within c = let within = c.requires.within in let one_each = c.slots.ensures.scheduled.layout.one_each in let rows = ap (λ (xs : List (List Slot)). length xs) c.slots.ensures.is in omega (arith, within, one_each, rows)
+slots_of_piece-requires-clause-within c = let within = c.requires.cells.within in let one_each = c.slots.ensures.scheduled.layout.one_each in let rows = ap (λ (xs : List (List Slot)). length xs) c.slots.ensures.is in omega (arith, within, one_each, rows)
 
 pub add_piece-requires-clause-at : goal.add_piece-requires-clause-at
 add_piece-requires-clause-at c =
@@ -29,11 +32,11 @@ add_piece-requires-clause-at c =
       variable = view_variable c.variable-var.result.now;
       is_variable = c.variable-var.ensures;
       is_piece = c.piece_at-piece.ensures;
-      first = r.first;
-      last = r.last;
-      ordered = r.ordered;
-      within = r.within;
-      own = subst (λ (rows : List (List Slot)). AreOwnSlots rows c.piece_at-piece.result.now.domain c.args.first c.args.last c.in_ok-own.own) c.slots.ensures.is c.in_ok-own.ensures;
+      first = r.cells.first;
+      last = r.cells.last;
+      ordered = r.cells.ordered;
+      within = r.cells.within;
+      own = subst (λ (rows : List (List Slot)). AreOwnSlots rows c.piece_at-piece.result.now.domain c.args.cells.first c.args.cells.last c.in_ok-own.own) c.slots.ensures.is c.in_ok-own.ensures;
     }
 
 pub loop-number-preserved : goal.loop-number-preserved
@@ -41,11 +44,11 @@ loop-number-preserved c =
     let r = c.requires in
     let at : NodePiece = record {
       scheduled = c.args.scheduled;
-      node = c.args.node;
+      node = c.args.cells.node;
       piece = c.piece_at-piece.result;
       number = c.loop-number.number;
-      first = c.args.first;
-      last = c.args.last;
+      first = c.args.cells.first;
+      last = c.args.cells.last;
       own = c.in_ok-own.own;
     } in
     let is : IsNodePiece at = record {
@@ -53,11 +56,11 @@ loop-number-preserved c =
       variable = view_variable c.variable-var.result.now;
       is_variable = c.variable-var.ensures;
       is_piece = c.piece_at-piece.ensures;
-      first = r.first;
-      last = r.last;
-      ordered = r.ordered;
-      within = r.within;
-      own = subst (λ (rows : List (List Slot)). AreOwnSlots rows c.piece_at-piece.result.now.domain c.args.first c.args.last c.in_ok-own.own) c.slots.ensures.is c.in_ok-own.ensures;
+      first = r.cells.first;
+      last = r.cells.last;
+      ordered = r.cells.ordered;
+      within = r.cells.within;
+      own = subst (λ (rows : List (List Slot)). AreOwnSlots rows c.piece_at-piece.result.now.domain c.args.cells.first c.args.cells.last c.in_ok-own.own) c.slots.ensures.is c.in_ok-own.ensures;
     } in
     piece_passed at is (length (references (view c.piece_at-piece.result.now.tree))) c.add_piece.new.ports (omega arith) c.in_ok-add_piece.ensures
 
@@ -70,5 +73,5 @@ returns c =
     let over : c.len-number-end.result ≤ c.loop-number.number = search rules in
     let many : length (map view_piece v.pieces) ≤ c.loop-number.number =
     (let a : length (map view_piece v.pieces) ≡ length v.pieces = length-map v.pieces view_piece in let b = c.len-number-end.ensures.count in omega (arith, over, a, b)) in
-    next_node s t.helpers l.placements l.cells c.args.node c.loop-number.number c.args.first c.args.last c.loop-number.ports c.requires.last
-    (λ port h e. let b = piece_below s t.helpers l.placements l.cells c.args.node (view_variable v) c.variable-var.ensures port h e in omega (arith, b, many)) c.loop-number.invariant
+    next_node s t.helpers l.placements l.cells c.args.cells.node c.loop-number.number c.args.cells.first c.args.cells.last c.loop-number.ports c.requires.cells.last
+    (λ port h e. let b = piece_below s t.helpers l.placements l.cells c.args.cells.node (view_variable v) c.variable-var.ensures port h e in omega (arith, b, many)) c.loop-number.invariant

@@ -1,10 +1,23 @@
-use Rattle.std.proofs.Common.{rules, ◌≤◌, length, arith}
+use Rattle.std.proofs.Common.{rules, ◌+◌, ◌≤◌, List, length, subst, arith}
 use Rattle.std.proofs.lemmas.Option.{slice_get_within}
 use Rattle.std.proofs.lemmas.Grind.{common_steps}
 use Rattle.av_flat.specs.Nodes.{nodes}
 use Rattle.av_flat.specs.Trees.{view_system}
+use Rattle.av_space.specs.declared.cells.Cell.{Cell}
+use Rattle.av_space.specs.inner.Feeding.{IsFirstOf}
 use Rattle.av_space.proofs.Fed.{all_ports}
 use Rattle.av_space.proofs.ports.add_nodes.Goals as goal
+
+pub add_node-requires-clause-cells : goal.add_node-requires-clause-cells
+add_node-requires-clause-cells c =
+    let last = c.end_of-last in
+    let is = c.cells-cells.ensures.is in
+    record {
+      first = c.loop-node.invariant.1;
+      last = subst (λ (cells : List Cell). IsFirstOf cells (c.loop-node.node + 1) last.result) is last.ensures.last;
+      ordered = last.ensures.ordered;
+      within = subst (λ (cells : List Cell). last.result ≤ length cells) is last.ensures.within;
+    }
 
 pub returns-clause-ports : goal.returns-clause-ports
 returns-clause-ports c =

@@ -2,8 +2,8 @@ use Rattle.std.proofs.Common.{rules, ◌≡◌, ◌∙◌, ◌<◌, ◌≤◌, �
 use Rattle.std.specs.Prelude.{slice_get}
 use Rattle.std.proofs.lemmas.Option.{slice_get-get_or}
 use Rattle.av_flat.specs.Broadcasts.{Reference}
-use Rattle.av_flat.specs.Trees.{view, reference}
-use Rattle.av_space.specs.inner.NodePieces.{IsPart, ArePortsAt}
+use Rattle.av_flat.specs.Trees.{view}
+use Rattle.av_space.specs.inner.NodePieces.{ArePortsAt}
 use Rattle.av_space.proofs.NodeParts.{piece_part}
 use Rattle.av_space.proofs.PieceParts.{part_at}
 use Rattle.av_space.proofs.ports.add_piece.Goals as goal
@@ -20,7 +20,7 @@ add_reference-requires-clause-part c =
     let l : n < length items = omega (arith, below, count, many) in
     let is = slice_get-get_or items n x l ∙ ap Some (sym c.index-as_slice-number.is) in
     let there = subst (λ (rs : List Reference). slice_get rs n ≡ Some x) (c.as_slice.ensures ∙ c.in_ok-found.ensures) is in
-    subst (λ (r : Reference). IsPart at n (reference r.place r.map)) (sym c.reference.view_is) (part_at at (view at.piece.now.tree) n x (piece_part at c.requires.at) there)
+    part_at at (view at.piece.now.tree) n x (piece_part at c.requires.at) there
 
 pub returns : goal.returns
 returns c =

@@ -24,7 +24,7 @@ loop-z-preserved c =
     let shown = c.args.shown.now in
     let s = view_system shown.scheduled.now.timed.flat in
     let points = c.as_slice-z-items.result.now in
-    let are : AreNodePoints s shown.node points = subst (AreNodePoints s shown.node) (sym c.as_slice-z-items.ensures) (subst (λ (t : Timed). AreNodePoints (view_system t.flat) shown.node c.in_ok-points.points) c.timed.ensures.is c.in_ok-points.ensures) in
+    let are : AreNodePoints s shown.node points = subst (AreNodePoints s shown.node) (sym c.as_slice-z-items.ensures) (subst (λ (t : Timed). AreNodePoints (view_system t.flat) shown.node c.in_ok-points.points) c.timed.ensures.is c.in_ok-points.ensures.points) in
     let within : c.loop-z.z-index < length points = search rules in
     let line = c.in_ok-line.ensures in
     subst (AreLinesTo shown.scheduled.now shown.outputs.now shown.node (take (c.loop-z.z-index + 1) points)) (sym c.in_ok-push.ensures.ok)
@@ -36,6 +36,6 @@ returns c =
     let shown = c.args.shown.now in
     let s = view_system shown.scheduled.now.timed.flat in
     let points = c.as_slice-z-items.result.now in
-    let are : AreNodePoints s shown.node points = subst (AreNodePoints s shown.node) (sym c.as_slice-z-items.ensures) (subst (λ (t : Timed). AreNodePoints (view_system t.flat) shown.node c.in_ok-points.points) c.timed.ensures.is c.in_ok-points.ensures) in
+    let are : AreNodePoints s shown.node points = subst (AreNodePoints s shown.node) (sym c.as_slice-z-items.ensures) (subst (λ (t : Timed). AreNodePoints (view_system t.flat) shown.node c.in_ok-points.points) c.timed.ensures.is c.in_ok-points.ensures.points) in
     let over : length points ≤ c.loop-z.z-index = search rules in
     whole_node s shown.scheduled.now.layout.placements shown.scheduled.now.layout.cells shown.outputs.now shown.node c.loop-z.z-index points c.loop-z.lines are over c.loop-z.invariant

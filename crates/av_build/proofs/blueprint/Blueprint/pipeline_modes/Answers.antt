@@ -2,6 +2,7 @@ use Rattle.std.proofs.Common.{◌<◌, map, refl, sym, ap, subst, arith}
 use Rattle.std.specs.Prelude.{AllPairs}
 use Rattle.std.proofs.lemmas.Grind.{common_steps, elements}
 use Rattle.av_flat.specs.declared.flat.Flat.{Flat}
+use Rattle.av_flat.specs.declared.timed.Timed.{Timed}
 use Rattle.av_flat.specs.Trees.{Tree, view, view_system}
 use Rattle.av_space.specs.declared.layout.Slot.{Slot}
 use Rattle.av_flat.specs.Sites.{PlaceMade}
@@ -49,7 +50,7 @@ helper_modes-requires c =
     (is_place b at h on c.as_slice.result.now c.index-as_slice-spot.result c.as_slice.ensures c.index-as_slice-spot.is c.as_slice-2.result.now c.as_slice-2.ensures c.index-as_slice-helper.result c.index-as_slice-helper.is
     c.as_slice-3.result.now c.as_slice-3.ensures mine c.index-as_slice-helper-2.is) in
     let tree = ap (λ (x : PlaceMade). view x.tree) c.read.view_is in
-    subst (λ (f : Flat). HasVariable (view_system f) (view c.read.inside.tree.now)) (sym c.requires.flat)
+    subst (λ (f : Flat). HasVariable (view_system f) (view c.read.inside.tree.now)) (ap (λ (t : Timed). t.flat) (sym c.system-timed.ensures))
     (subst (λ (t : Tree). HasVariable (system_of b.array) t) (sym tree)
     (variable_there b c.requires.blueprint at (spot_there b c.requires.blueprint at on.sites on.spot_on) (some_slots b c.requires.blueprint at on.sites on.spot_on) mine there))
 
@@ -66,7 +67,7 @@ returns c =
     let tree = ap (λ (x : PlaceMade). view x.tree) c.read.view_is in
     if_ok_map _ _ (λ modes are.
     let here = subst (λ (t : Tree). ArePipelineModes (system_of b.array) at.var.now.width t c.in_ok-found.found (map mode_of modes)) tree
-    (subst (λ (f : Flat). ArePipelineModes (view_system f) at.var.now.width (view c.read.inside.tree.now) c.in_ok-found.found (map mode_of modes)) c.requires.flat are) in
+    (subst (λ (f : Flat). ArePipelineModes (view_system f) at.var.now.width (view c.read.inside.tree.now) c.in_ok-found.found (map mode_of modes)) (ap (λ (t : Timed). t.flat) c.system-timed.ensures) are) in
     modes_there b c.requires.blueprint at h on c.args.counter c.requires.counter c.as_slice-5.result.now order c.in_ok-found.found c.in_ok-found.ensures at.var.now.width refl (map mode_of modes) here) c.helper_modes.result c.helper_modes.ensures
 
 pub pipeline_moments-requires-clause-order : goal.pipeline_moments-requires-clause-order

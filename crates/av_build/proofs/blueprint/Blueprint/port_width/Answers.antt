@@ -1,5 +1,6 @@
 use Rattle.std.proofs.Common.{◌≡◌, ◌∙◌, List, length, arith, sym, ap, subst, None}
 use Rattle.av_flat.specs.declared.flat.Flat.{Flat}
+use Rattle.av_flat.specs.declared.timed.Timed.{Timed}
 use Rattle.av_flat.specs.Trees.{Tree, view, view_system}
 use Rattle.av_space.specs.declared.spots.Site.{Site}
 use Rattle.av_history.specs.Widths.{read_width}
@@ -34,7 +35,7 @@ width_read-requires c =
     let site = c.reference_of-site.result.now in
     let found = subst (λ (p : CellPlan). IsPortPlace p.pieces port site) (sym c.index-as_slice-port.is) c.reference_of-site.ensures in
     let tree : view site.place.tree ≡ view c.site.inside.0.0.tree.now = ap (λ (s : Site). view s.place.tree) (sym c.site.view_is) in
-    subst (λ (f : Flat). HasVariable (view_system f) (view c.site.inside.0.0.tree.now)) (sym c.requires.flat)
+    subst (λ (f : Flat). HasVariable (view_system f) (view c.site.inside.0.0.tree.now)) (ap (λ (t : Timed). t.flat) (sym c.system-timed.ensures))
     (subst (HasVariable (view_system b.array.timed.now.flat)) tree (has_variable b c.requires.blueprint port c.requires.port x is_x site found))
 
 pub returns : goal.returns
@@ -46,7 +47,7 @@ returns c =
     let is_x = element_of b.cells c.as_slice.result.now port.cell x x c.as_slice.ensures within c.index-as_slice-port.is in
     let site = c.reference_of-site.result.now in
     let found = subst (λ (p : CellPlan). IsPortPlace p.pieces port site) (sym c.index-as_slice-port.is) c.reference_of-site.ensures in
-    let bits = c.args.flat.now.width.bits in
+    let bits = c.system-timed.result.now.flat.width.bits in
     let tree : view c.site.inside.0.0.tree.now ≡ view site.place.tree = ap (λ (s : Site). view s.place.tree) c.site.view_is in
     port_width_is b c.requires.blueprint port c.requires.port x is_x site found c.width_read.result bits
-    (c.width_read.ensures ∙ ap (λ (f : Flat). read_width (view_system f) bits None (view c.site.inside.0.0.tree.now)) c.requires.flat ∙ ap (λ (t : Tree). read_width (view_system b.array.timed.now.flat) bits None t) tree)
+    (c.width_read.ensures ∙ ap (λ (f : Flat). read_width (view_system f) bits None (view c.site.inside.0.0.tree.now)) (ap (λ (t : Timed). t.flat) c.system-timed.ensures) ∙ ap (λ (t : Tree). read_width (view_system b.array.timed.now.flat) bits None t) tree)

@@ -27,72 +27,72 @@ pub in_order-requires-clause-ascend : goal.in_order-requires-clause-ascend
 in_order-requires-clause-ascend c = c.slots-all.ensures.order
 
 pub in_order-requires-clause-within : goal.in_order-requires-clause-within
-in_order-requires-clause-within c = cell_within c.args.self.now c.args.counter c.requires.counter c.args.cell c.slots-all.result.now c.slots-all.ensures
+in_order-requires-clause-within c = cell_within c.args.self.now c.args.counter c.requires.counter c.args.on.cell c.slots-all.result.now c.slots-all.ensures
 
 pub planned_spot-requires-clause-spot : goal.planned_spot-requires-clause-spot
 planned_spot-requires-clause-spot c =
     let b = c.args.self.now in
     let is = c.requires.blueprint in
-    let p = c.args.cell in
-    let k = c.args.number in
+    let p = c.args.on.cell in
+    let k = c.args.on.number in
     let cells = c.as_slice.result.now in
-    let plan = c.index-as_slice-cell.result in
+    let plan = c.index-as_slice-on.result in
     let own = c.requires.piece in
     let low = in_range b.cells p own.0 own.1 in
-    let here = plan_at b is p low cells plan c.as_slice.ensures c.index-as_slice-cell.is in
-    let within = has_within b is p low cells plan c.as_slice.ensures c.index-as_slice-cell.is k own in
-    let at = spot_by b.array c.index-as_slice-number.result in
-    let is_at = piece_at b is p low cells plan c.as_slice.ensures c.index-as_slice-cell.is k within c.as_slice-2.result.now c.index-as_slice-number.result c.as_slice-2.ensures c.index-as_slice-number.is at refl in
+    let here = plan_at b is p low cells plan c.as_slice.ensures c.index-as_slice-on.is in
+    let within = has_within b is p low cells plan c.as_slice.ensures c.index-as_slice-on.is k own in
+    let at = spot_by b.array c.index-as_slice-on-2.result in
+    let is_at = piece_at b is p low cells plan c.as_slice.ensures c.index-as_slice-on.is k within c.as_slice-2.result.now c.index-as_slice-on-2.result c.as_slice-2.ensures c.index-as_slice-on-2.is at refl in
     (spot_at b.array is.array p plan.pieces (is.plans.pieces p plan here) k at is_at).2
 
 pub marks-requires-clause-points : goal.marks-requires-clause-points
 marks-requires-clause-points c =
     let b = c.args.self.now in
     let is = c.requires.blueprint in
-    let p = c.args.cell in
-    let k = c.args.number in
+    let p = c.args.on.cell in
+    let k = c.args.on.number in
     let cells = c.as_slice.result.now in
-    let plan = c.index-as_slice-cell.result in
+    let plan = c.index-as_slice-on.result in
     let own = c.requires.piece in
     let low = in_range b.cells p own.0 own.1 in
-    let here = plan_at b is p low cells plan c.as_slice.ensures c.index-as_slice-cell.is in
-    let within = has_within b is p low cells plan c.as_slice.ensures c.index-as_slice-cell.is k own in
+    let here = plan_at b is p low cells plan c.as_slice.ensures c.index-as_slice-on.is in
+    let within = has_within b is p low cells plan c.as_slice.ensures c.index-as_slice-on.is k own in
     let at = c.in_ok-spot.spot in
-    let is_at = piece_at b is p low cells plan c.as_slice.ensures c.index-as_slice-cell.is k within c.as_slice-2.result.now c.index-as_slice-number.result c.as_slice-2.ensures c.index-as_slice-number.is at c.in_ok-spot.ensures in
+    let is_at = piece_at b is p low cells plan c.as_slice.ensures c.index-as_slice-on.is k within c.as_slice-2.result.now c.index-as_slice-on-2.result c.as_slice-2.ensures c.index-as_slice-on-2.is at c.in_ok-spot.ensures in
     cell_points b is p plan here k at is_at c.slots-all.result.now c.slots-all.ensures
 
 pub work-requires-clause-spot : goal.work-requires-clause-spot
 work-requires-clause-spot c =
     let b = c.args.self.now in
     let is = c.requires.blueprint in
-    let p = c.args.cell in
-    let k = c.args.number in
+    let p = c.args.on.cell in
+    let k = c.args.on.number in
     let cells = c.as_slice.result.now in
-    let plan = c.index-as_slice-cell.result in
+    let plan = c.index-as_slice-on.result in
     let own = c.requires.piece in
     let low = in_range b.cells p own.0 own.1 in
-    let here = plan_at b is p low cells plan c.as_slice.ensures c.index-as_slice-cell.is in
-    let within = has_within b is p low cells plan c.as_slice.ensures c.index-as_slice-cell.is k own in
+    let here = plan_at b is p low cells plan c.as_slice.ensures c.index-as_slice-on.is in
+    let within = has_within b is p low cells plan c.as_slice.ensures c.index-as_slice-on.is k own in
     let at = c.in_ok-spot.spot in
-    let is_at = piece_at b is p low cells plan c.as_slice.ensures c.index-as_slice-cell.is k within c.as_slice-2.result.now c.index-as_slice-number.result c.as_slice-2.ensures c.index-as_slice-number.is at c.in_ok-spot.ensures in
-    let places = c.index-as_slice-number-2.result in
-    let is_own = places_at b is p low cells plan c.as_slice.ensures c.index-as_slice-cell.is k within c.as_slice-3.result.now places c.as_slice-3.ensures c.index-as_slice-number-2.is in
+    let is_at = piece_at b is p low cells plan c.as_slice.ensures c.index-as_slice-on.is k within c.as_slice-2.result.now c.index-as_slice-on-2.result c.as_slice-2.ensures c.index-as_slice-on-2.is at c.in_ok-spot.ensures in
+    let places = c.index-as_slice-on-3.result in
+    let is_own = places_at b is p low cells plan c.as_slice.ensures c.index-as_slice-on.is k within c.as_slice-3.result.now places c.as_slice-3.ensures c.index-as_slice-on-3.is in
     is_on b is p plan here k at is_at c.as_slice-places.result.now (is_own ∙ ap (λ (l : List Site). Some l) (sym c.as_slice-places.ensures))
 
 pub returns : goal.returns
 returns c = λ other spot is_other is_spot.
     let b = c.args.self.now in
     let is = c.requires.blueprint in
-    let p = c.args.cell in
-    let k = c.args.number in
+    let p = c.args.on.cell in
+    let k = c.args.on.number in
     let cells = c.as_slice.result.now in
-    let plan = c.index-as_slice-cell.result in
+    let plan = c.index-as_slice-on.result in
     let own = c.requires.piece in
     let low = in_range b.cells p own.0 own.1 in
-    let here = plan_at b is p low cells plan c.as_slice.ensures c.index-as_slice-cell.is in
-    let within = has_within b is p low cells plan c.as_slice.ensures c.index-as_slice-cell.is k own in
+    let here = plan_at b is p low cells plan c.as_slice.ensures c.index-as_slice-on.is in
+    let within = has_within b is p low cells plan c.as_slice.ensures c.index-as_slice-on.is k own in
     let at = c.in_ok-spot.spot in
-    let is_at = piece_at b is p low cells plan c.as_slice.ensures c.index-as_slice-cell.is k within c.as_slice-2.result.now c.index-as_slice-number.result c.as_slice-2.ensures c.index-as_slice-number.is at c.in_ok-spot.ensures in
+    let is_at = piece_at b is p low cells plan c.as_slice.ensures c.index-as_slice-on.is k within c.as_slice-2.result.now c.index-as_slice-on-2.result c.as_slice-2.ensures c.index-as_slice-on-2.is at c.in_ok-spot.ensures in
     let one : at ≡ spot = some_is at spot (sym is_at ∙ ap (λ (x : CellPlan). slice_get (spots_on b.array x.pieces) k) (some_is plan other (sym here ∙ is_other)) ∙ is_spot) in
     let count = count_in c.args.counter in
     let slots = c.slots-all.result.now in
@@ -107,20 +107,20 @@ returns c = λ other spot is_other is_spot.
 pub slots-all-requires-clause-cell : goal.slots-all-requires-clause-cell
 slots-all-requires-clause-cell c = grind (arith, elements)
 
-pub bounds-as_slice-number-2 : goal.bounds-as_slice-number-2
-bounds-as_slice-number-2 c = grind (arith, elements)
+pub bounds-as_slice-on-3 : goal.bounds-as_slice-on-3
+bounds-as_slice-on-3 c = grind (arith, elements)
 
-pub offset_bounds-as_slice-number-2 : goal.offset_bounds-as_slice-number-2
-offset_bounds-as_slice-number-2 c = grind (arith, elements)
+pub offset_bounds-as_slice-on-3 : goal.offset_bounds-as_slice-on-3
+offset_bounds-as_slice-on-3 c = grind (arith, elements)
 
-pub bounds-as_slice-number : goal.bounds-as_slice-number
-bounds-as_slice-number c = grind (arith, elements)
+pub bounds-as_slice-on-2 : goal.bounds-as_slice-on-2
+bounds-as_slice-on-2 c = grind (arith, elements)
 
-pub offset_bounds-as_slice-number : goal.offset_bounds-as_slice-number
-offset_bounds-as_slice-number c = grind (arith, elements)
+pub offset_bounds-as_slice-on-2 : goal.offset_bounds-as_slice-on-2
+offset_bounds-as_slice-on-2 c = grind (arith, elements)
 
-pub bounds-as_slice-cell : goal.bounds-as_slice-cell
-bounds-as_slice-cell c = grind (arith, elements)
+pub bounds-as_slice-on : goal.bounds-as_slice-on
+bounds-as_slice-on c = grind (arith, elements)
 
-pub offset_bounds-as_slice-cell : goal.offset_bounds-as_slice-cell
-offset_bounds-as_slice-cell c = grind (arith, elements)
+pub offset_bounds-as_slice-on : goal.offset_bounds-as_slice-on
+offset_bounds-as_slice-on c = grind (arith, elements)

@@ -1,6 +1,7 @@
 use Rattle.std.proofs.Common.{◌∙◌, List, None, sym, ap, subst}
 use Rattle.std.proofs.lemmas.Result.{IfOk-weaker}
 use Rattle.av_flat.specs.declared.flat.Flat.{Flat}
+use Rattle.av_flat.specs.declared.timed.Timed.{Timed}
 use Rattle.av_flat.specs.Trees.{Tree, view, view_variable, view_system}
 use Rattle.av_flat.specs.Sites.{PlaceMade}
 use Rattle.av_space.specs.Spots.{system_of}
@@ -46,7 +47,7 @@ width_read-width-requires c =
     let on = c.requires.place in
     let place = c.args.place.now in
     let tree = ap (λ (x : PlaceMade). view x.tree) c.read.view_is in
-    subst (λ (f : Flat). HasVariable (view_system f) (view c.read.inside.tree.now)) (sym c.requires.flat)
+    subst (λ (f : Flat). HasVariable (view_system f) (view c.read.inside.tree.now)) (ap (λ (t : Timed). t.flat) (sym c.system-timed.ensures))
     (subst (λ (t : Tree). HasVariable (system_of b.array) t) (sym tree)
     (variable_there b c.requires.blueprint at (spot_there b c.requires.blueprint at on.sites on.spot_on) (some_slots b c.requires.blueprint at on.sites on.spot_on) place (site_at b c.requires.blueprint at on.sites on.spot_on on.index place on.is_place)))
 
@@ -61,8 +62,8 @@ returns c =
     let width = c.width_read-width.result in
     let own = view c.read.inside.tree.now in
     let tree = ap (λ (x : PlaceMade). view x.tree) c.read.view_is in
-    let inlet_is = c.inlet_of.ensures ∙ ap (λ (f : Flat). inlet_by (view_system f) (λ j. j) None own) c.requires.flat ∙ ap (λ (t : Tree). inlet_by (system_of b.array) (λ j. j) None t) tree in
-    let width_is = c.width_read-width.ensures ∙ ap (λ (f : Flat). read_width (view_system f) (view_variable at.var.now).width None own) c.requires.flat ∙ ap (λ (t : Tree). read_width (system_of b.array) (view_variable at.var.now).width None t) tree in
+    let inlet_is = c.inlet_of.ensures ∙ ap (λ (f : Flat). inlet_by (view_system f) (λ j. j) None own) (ap (λ (t : Timed). t.flat) c.system-timed.ensures) ∙ ap (λ (t : Tree). inlet_by (system_of b.array) (λ j. j) None t) tree in
+    let width_is = c.width_read-width.ensures ∙ ap (λ (f : Flat). read_width (view_system f) (view_variable at.var.now).width None own) (ap (λ (t : Timed). t.flat) c.system-timed.ensures) ∙ ap (λ (t : Tree). read_width (system_of b.array) (view_variable at.var.now).width None t) tree in
     IfOk-weaker c.site.result _ _ (λ site e plan is_plan.
     plain_site b c.requires.blueprint c.args.counter at (spot_there b c.requires.blueprint at on.sites on.spot_on) place (site_at b c.requires.blueprint at on.sites on.spot_on on.index place on.is_place) plan is_plan
     c.in_default.is c.args.order.now c.requires.order moments c.in_ok-moments.ensures inlet inlet_is width width_is site

@@ -1,4 +1,5 @@
 use Rattle.std.proofs.Common.{◌≡◌, ◌∙◌, ◌+◌, ◌<◌, List, length, get_or, ap, arith}
+use Rattle.std.proofs.lemmas.Grind.{common_steps}
 use Rattle.av_kinds.specs.inner.Shapes.{ModeShapeMade, LaneShapeMade}
 use Rattle.av_kinds.proofs.Writing.{mode_put}
 use Rattle.av_kinds.proofs.interface.Interface.add_lane.Goals as goal
@@ -13,3 +14,9 @@ loop-k-preserved c =
     mode_put c.args.self.now all k x c.loop-k.self c.add_mode.new.self c.loop-k.modes c.push.new.self c.in_ok-add_mode.field-0
     (omega (arith, within, ap (λ (xs : List ModeShapeMade). length xs) items)) (c.index-shapes-k.is ∙ ap (λ (xs : List ModeShapeMade). get_or xs k x) items) c.loop-k.invariant
     c.in_ok-add_mode.ensures.ports c.in_ok-add_mode.ensures.datapath c.in_ok-push.ensures.ok
+
+pub returns-clause-datapaths : goal.returns-clause-datapaths
+returns-clause-datapaths c = grind (arith, common_steps)
+
+pub returns-clause-ports : goal.returns-clause-ports
+returns-clause-ports c = grind (arith, common_steps)

@@ -1,5 +1,7 @@
-use Rattle.std.proofs.Common.{◌≡◌, ℕ, ◌<◌, List, length, get_or, sym, ap, subst}
+use Rattle.std.proofs.Common.{rules, ◌≡◌, ℕ, ◌<◌, List, length, get_or, sym, ap, subst, arith}
 use Rattle.std.specs.Prelude.{All, AllPairs, Contains}
+use Rattle.std.proofs.lemmas.List.{length-map}
+use Rattle.av_flat.specs.Trees.{view_piece, view_variable}
 use Rattle.av_space.specs.declared.cells.Cell.{Cell}
 use Rattle.av_space.specs.declared.cells.InPort.{InPort}
 use Rattle.av_space.specs.Ports.{IsPortBefore}
@@ -8,6 +10,19 @@ use Rattle.av_space.specs.Spots.{cells_of}
 use Rattle.av_space.proofs.Elements.{in_range}
 use Rattle.av_space.proofs.SpotReadings.{port_there}
 use Rattle.av_space.proofs.array.Array.port.Goals as goal
+
+pub overflow_cast-port : goal.overflow_cast-port
+overflow_cast-port c =
+    let l = in_range (cells_of c.args.self.now) c.args.spot.now.cell c.requires.spot.cell c.requires.spot.is_cell in
+    omega (arith, l, c.requires.array.layout.few_cells)
+
+pub overflow_cast-port-2 : goal.overflow_cast-port-2
+overflow_cast-port-2 c =
+    let at = c.args.spot.now in
+    let l = in_range (view_variable at.var.now).pieces at.number (view_piece at.piece.now) c.requires.spot.is_piece in
+    let size = length-map at.var.now.pieces view_piece in
+    let few : at.number < length at.var.now.pieces = omega (arith, l, size) in
+    search (rules, few)
 
 pub port_at-requires-clause-cells : goal.port_at-requires-clause-cells
 port_at-requires-clause-cells c =

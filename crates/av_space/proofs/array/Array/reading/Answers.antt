@@ -1,14 +1,14 @@
-use Rattle.std.proofs.Common.{◌≡◌, ◌∙◌, ℕ, ◌↔◌, List, Some, length, sym, ap, subst}
+use Rattle.std.proofs.Common.{◌≡◌, ◌∙◌, ℕ, ◌↔◌, List, Some, sym, ap, subst}
 use Rattle.std.specs.Prelude.{Contains}
 use Rattle.av_flat.specs.declared.timed.Timed.{Timed}
 use Rattle.av_flat.specs.Legal.{IsLegal}
 use Rattle.av_flat.specs.Trees.{view_piece}
 use Rattle.av_space.specs.declared.layout.Slot.{Slot}
 use Rattle.av_space.specs.Layouts.{IsLayout}
-use Rattle.av_space.specs.inner.Readings.{IsFineTap, IsReadingAt, IsSite}
+use Rattle.av_space.specs.inner.Readings.{IsReadingAt, IsSite}
 use Rattle.av_space.specs.inner.Scheduled.{Scheduled, system_of, helpers_of, placings_of, cells_of}
 use Rattle.av_space.specs.inner.Sites.{tap_of}
-use Rattle.av_space.proofs.SpotReadings.{fine, site, read_of}
+use Rattle.av_space.proofs.SpotReadings.{site, read_of}
 use Rattle.av_space.proofs.array.Array.reading.Goals as goal
 
 pub new-scheduled-requires-clause-legal : goal.new-scheduled-requires-clause-legal
@@ -17,16 +17,8 @@ new-scheduled-requires-clause-legal c = let is = c.requires.array in subst IsLeg
 pub new-scheduled-requires-clause-layout : goal.new-scheduled-requires-clause-layout
 new-scheduled-requires-clause-layout c = let is = c.requires.array in subst (λ (t : Timed). IsLayout t c.args.self.now.layout) (sym is.nodes) is.layout
 
-pub reading_at-requires-clause-fine : goal.reading_at-requires-clause-fine
-reading_at-requires-clause-fine c =
-    let a = c.args.self.now in
-    let at = c.args.spot.now in
-    let tap = tap_of c.args.tap.now in
-    let same = c.new-scheduled.ensures ∙ ap (λ (t : Timed). record { timed = t; layout = a.layout }) c.requires.array.nodes in
-    subst (λ (of : Scheduled). IsFineTap at.piece.now.domain.dim (length of.timed.flat.vars) tap) (sym same) (fine a c.requires.array at c.requires.spot tap c.requires.tap c.args.slot.now c.requires.slot)
-
-pub reading_at-requires-clause-site : goal.reading_at-requires-clause-site
-reading_at-requires-clause-site c =
+pub reading_at-requires : goal.reading_at-requires
+reading_at-requires c =
     let a = c.args.self.now in
     let at = c.args.spot.now in
     let tap = tap_of c.args.tap.now in

@@ -20,7 +20,8 @@ pub line_lengths-requires : goal.line_lengths-requires
 line_lengths-requires c =
     let l = c.args.layout in
     let same = c.new-scheduled.ensures ∙ ap (λ (t : Timed). record { timed = t; layout = l }) c.in_ok-nodes.ensures in
-    let own = own_links c.args.timed.now c.args.cells.now l c.requires.whole c.requires.layout in
+    let are = own_links c.args.timed.now c.args.cells.now l c.requires.whole c.requires.layout in
+    let own : LinksOf (record { timed = c.args.timed.now; layout = l }) c.args.cells.now.links = record { scheduled = record { legal = c.requires.legal; layout = c.requires.layout }; are = are } in
     subst (LinksOf c.new-scheduled.result) (sym c.as_slice.ensures) (subst (λ (of : Scheduled). LinksOf of c.args.cells.now.links) (sym same) own)
 
 pub returns-clause-array : goal.returns-clause-array

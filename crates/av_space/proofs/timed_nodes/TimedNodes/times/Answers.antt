@@ -3,4 +3,4 @@ use Rattle.av_flat.specs.Legal.{IsLegal}
 use Rattle.av_space.proofs.timed_nodes.TimedNodes.times.Goals as goal
 
 pub returns-clause-legal : goal.returns-clause-legal
-returns-clause-legal c = subst IsLegal c.self.view_is c.self.invariant.2
+returns-clause-legal c = subst IsLegal c.self.view_is c.self.invariant.1

@@ -1,6 +1,6 @@
 use Rattle.std.proofs.Common.{rules, ◌<◌, ◌∙◌, length}
 use Rattle.av_flat.proofs.NodeNumbers.{viewed_at}
-use Rattle.av_data.proofs.table.node_at.Goals as goal
+use Rattle.av_flat.proofs.nodes.variable_of.Goals as goal
 
 pub returns : goal.returns
 returns c =
