@@ -59,7 +59,7 @@ fn laws() {
 }
 
 const DRIVES: &str =
-    "List { items: [Drive { target: Name { text: \"c0\" }, operation: Binary { left: Name(Name { text: \"i0\" }), symbol: Add, right: Literal { width: Width { bits: 8 }, value: 1 } } }, Drive { target: Name { text: \"o0\" }, operation: Plain(Name(Name { text: \"c0\" })) }] }";
+    "List { items: [Drive { target: Name { text: Left(\"c0\") }, operation: Binary { left: Name(Name { text: Left(\"i0\") }), symbol: Add, right: Literal { width: Width { bits: 8 }, value: 1 } } }, Drive { target: Name { text: Left(\"o0\") }, operation: Plain(Name(Name { text: Left(\"c0\") })) }] }";
 
 fn assert_increment(rt: &impl Abort, alloc: Global, read: &Design) -> Result<(), Fail> {
     assert_eq!(rt; read.module.wires.as_slice().len(), 1);
