@@ -5,6 +5,7 @@ ghost use Rattle.av_flat.specs.Trees.{view_system, view_variable};
 ghost use Rattle.av_flat.specs.Nodes.{nodes, number_at, node_place, places_of, numbers_of};
 
 use crate::flat::{Flat, Var};
+use crate::numbers::{Node, VariablePlace};
 use av_base::{List, Memory};
 use std::alloc::Global;
 use std::marker::Model;
@@ -41,11 +42,11 @@ fn numbers(alloc: Global, flat: &Flat) -> Result<List<usize>, Memory>
 }
 
 // The place of a node among the variables.
-fn place_of(flat: &Flat, node: usize) -> usize
-    requires { node < length (nodes (view_system flat.now)) }
-    ensures fits { result < length flat.now.vars }
-    ensures is { slice_get (nodes (view_system flat.now)) node
-        ≡ slice_get (view_system flat.now).variables result }
+fn place_of(flat: &Flat, node: Node) -> VariablePlace
+    requires { node.0 < length (nodes (view_system flat.now)) }
+    ensures fits { result.0 < length flat.now.vars }
+    ensures is { slice_get (nodes (view_system flat.now)) node.0
+        ≡ slice_get (view_system flat.now).variables result.0 }
 {
     let vars = flat.vars.as_slice();
     let mut count: usize = 0;
@@ -53,8 +54,8 @@ fn place_of(flat: &Flat, node: usize) -> usize
         if !vars[k].is_node() {
             continue;
         }
-        if count == node {
-            return k;
+        if count == node.0 {
+            return VariablePlace(k);
         }
         count += 1;
     }
@@ -62,13 +63,13 @@ fn place_of(flat: &Flat, node: usize) -> usize
 }
 
 /// The variable of a node, which is looked for without memory.
-pub fn variable_of(flat: &Flat, node: usize) -> &Var
-    requires { node < length (nodes (view_system flat.now)) }
-    ensures { slice_get (nodes (view_system flat.now)) node ≡ Some (view_variable result.now) }
+pub fn variable_of(flat: &Flat, node: Node) -> &Var
+    requires { node.0 < length (nodes (view_system flat.now)) }
+    ensures { slice_get (nodes (view_system flat.now)) node.0 ≡ Some (view_variable result.now) }
 {
     let place = place_of(flat, node);
     let vars = flat.vars.as_slice();
-    &vars[place]
+    &vars[place.0]
 }
 
 /// The nodes of a system, found once. Contracts see the system.
@@ -129,31 +130,31 @@ impl<'a> Nodes<'a> {
     }
 
     /// How many nodes stand before a place of the variables. It is the number of the node there, if a node stands there.
-    pub fn number(&self, place: usize) -> usize
-        requires { place < length self.now.vars }
-        ensures is { result ≡ number_at (view_system self.now) place }
-        ensures most { result ≤ 1073741824 }
+    pub fn number(&self, place: VariablePlace) -> Node
+        requires { place.0 < length self.now.vars }
+        ensures is { result.0 ≡ number_at (view_system self.now) place.0 }
+        ensures most { result.0 ≤ 1073741824 }
     {
         // So few variables that 32 bits number them.
         let _most = self.flat.vars.len();
-        self.numbers.as_slice()[place]
+        Node(self.numbers.as_slice()[place.0])
     }
 
     /// The place of a node among the variables.
-    pub fn place(&self, node: usize) -> usize
-        requires { node < length (nodes (view_system self.now)) }
-        ensures { result ≡ node_place (view_system self.now) node }
+    pub fn place(&self, node: Node) -> VariablePlace
+        requires { node.0 < length (nodes (view_system self.now)) }
+        ensures { result.0 ≡ node_place (view_system self.now) node.0 }
     {
-        self.places.as_slice()[node]
+        VariablePlace(self.places.as_slice()[node.0])
     }
 
     /// The variable of a node.
-    pub fn variable(&self, node: usize) -> &'a Var
-        requires { node < length (nodes (view_system self.now)) }
-        ensures { slice_get (nodes (view_system self.now)) node ≡ Some (view_variable result.now) }
+    pub fn variable(&self, node: Node) -> &'a Var
+        requires { node.0 < length (nodes (view_system self.now)) }
+        ensures { slice_get (nodes (view_system self.now)) node.0 ≡ Some (view_variable result.now) }
     {
         let vars = self.flat.vars.as_slice();
         let place = self.place(node);
-        &vars[place]
+        &vars[place.0]
     }
 }
