@@ -7,6 +7,7 @@ mod direction;
 mod flat;
 mod laws;
 mod nodes;
+mod numbers;
 mod pass;
 mod quantity;
 mod sites;
@@ -22,6 +23,7 @@ pub use laws::{
     points_of_sets, unhelped_systems_show_the_same, unreduced_is_chained, words_of_pieces,
 };
 pub use nodes::{Nodes, variable_of};
+pub use numbers::{Node, SiteNumber, VariablePlace};
 pub use pass::{Feeds, Meant, Pass};
 pub use quantity::Quantity;
 pub use sites::{ReadingPlace, Reference, piece_places, tree_places, tree_references};

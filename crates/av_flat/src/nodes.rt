@@ -5,21 +5,24 @@ ghost use Rattle.av_flat.specs.Trees.{view_system, view_variable};
 ghost use Rattle.av_flat.specs.Nodes.{nodes, number_at, node_place, places_of, numbers_of};
 
 use crate::flat::{Flat, Var};
+use crate::numbers::{Node, VariablePlace};
 use av_base::{List, Memory};
 use std::alloc::Global;
 use std::marker::Model;
 
 // The place of each node among the variables.
-fn places(alloc: Global, flat: &Flat) -> Result<List<usize>, Memory>
+fn places(alloc: Global, flat: &Flat) -> Result<List<u32>, Memory>
     ensures { IfOk result (λ to. to ≡ places_of (view_system flat.now)) }
 {
+    // So few variables that 32 bits number them.
+    let _most = flat.vars.len();
     let vars = flat.vars.as_slice();
     let mut to = List::new(alloc);
     for place in 0..vars.len() {
         if !vars[place].is_node() {
             continue;
         }
-        to.push(place)?;
+        to.push(place as u32)?;
     }
     Ok(to)
 }
@@ -41,20 +44,22 @@ fn numbers(alloc: Global, flat: &Flat) -> Result<List<usize>, Memory>
 }
 
 // The place of a node among the variables.
-fn place_of(flat: &Flat, node: usize) -> usize
-    requires { node < length (nodes (view_system flat.now)) }
-    ensures fits { result < length flat.now.vars }
-    ensures is { slice_get (nodes (view_system flat.now)) node
-        ≡ slice_get (view_system flat.now).variables result }
+fn place_of(flat: &Flat, node: Node) -> VariablePlace
+    requires { node.0 < length (nodes (view_system flat.now)) }
+    ensures fits { result.0 < length flat.now.vars }
+    ensures is { slice_get (nodes (view_system flat.now)) node.0
+        ≡ slice_get (view_system flat.now).variables result.0 }
 {
+    // So few variables that 32 bits number them.
+    let _most = flat.vars.len();
     let vars = flat.vars.as_slice();
     let mut count: usize = 0;
     for k in 0..vars.len() {
         if !vars[k].is_node() {
             continue;
         }
-        if count == node {
-            return k;
+        if count == node.0 {
+            return VariablePlace(k as u32);
         }
         count += 1;
     }
@@ -62,13 +67,13 @@ fn place_of(flat: &Flat, node: usize) -> usize
 }
 
 /// The variable of a node, which is looked for without memory.
-pub fn variable_of(flat: &Flat, node: usize) -> &Var
-    requires { node < length (nodes (view_system flat.now)) }
-    ensures { slice_get (nodes (view_system flat.now)) node ≡ Some (view_variable result.now) }
+pub fn variable_of(flat: &Flat, node: Node) -> &Var
+    requires { node.0 < length (nodes (view_system flat.now)) }
+    ensures { slice_get (nodes (view_system flat.now)) node.0 ≡ Some (view_variable result.now) }
 {
     let place = place_of(flat, node);
     let vars = flat.vars.as_slice();
-    &vars[place]
+    &vars[place.0 as usize]
 }
 
 /// The nodes of a system, found once. Contracts see the system.
@@ -76,7 +81,7 @@ pub fn variable_of(flat: &Flat, node: usize) -> &Var
 pub struct Nodes<'a> {
     flat: &'a Flat,
     // Of each node.
-    places: List<usize>,
+    places: List<u32>,
     // Before each variable.
     numbers: List<usize>,
 }
@@ -129,31 +134,31 @@ impl<'a> Nodes<'a> {
     }
 
     /// How many nodes stand before a place of the variables. It is the number of the node there, if a node stands there.
-    pub fn number(&self, place: usize) -> usize
-        requires { place < length self.now.vars }
-        ensures is { result ≡ number_at (view_system self.now) place }
-        ensures most { result ≤ 1073741824 }
+    pub fn number(&self, place: VariablePlace) -> Node
+        requires { place.0 < length self.now.vars }
+        ensures is { result.0 ≡ number_at (view_system self.now) place.0 }
+        ensures most { result.0 ≤ 1073741824 }
     {
         // So few variables that 32 bits number them.
         let _most = self.flat.vars.len();
-        self.numbers.as_slice()[place]
+        Node(self.numbers.as_slice()[place.0 as usize])
     }
 
     /// The place of a node among the variables.
-    pub fn place(&self, node: usize) -> usize
-        requires { node < length (nodes (view_system self.now)) }
-        ensures { result ≡ node_place (view_system self.now) node }
+    pub fn place(&self, node: Node) -> VariablePlace
+        requires { node.0 < length (nodes (view_system self.now)) }
+        ensures { result.0 ≡ node_place (view_system self.now) node.0 }
     {
-        self.places.as_slice()[node]
+        VariablePlace(self.places.as_slice()[node.0])
     }
 
     /// The variable of a node.
-    pub fn variable(&self, node: usize) -> &'a Var
-        requires { node < length (nodes (view_system self.now)) }
-        ensures { slice_get (nodes (view_system self.now)) node ≡ Some (view_variable result.now) }
+    pub fn variable(&self, node: Node) -> &'a Var
+        requires { node.0 < length (nodes (view_system self.now)) }
+        ensures { slice_get (nodes (view_system self.now)) node.0 ≡ Some (view_variable result.now) }
     {
         let vars = self.flat.vars.as_slice();
         let place = self.place(node);
-        &vars[place]
+        &vars[place.0 as usize]
     }
 }
