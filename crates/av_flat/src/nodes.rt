@@ -11,16 +11,18 @@ use std::alloc::Global;
 use std::marker::Model;
 
 // The place of each node among the variables.
-fn places(alloc: Global, flat: &Flat) -> Result<List<usize>, Memory>
+fn places(alloc: Global, flat: &Flat) -> Result<List<u32>, Memory>
     ensures { IfOk result (λ to. to ≡ places_of (view_system flat.now)) }
 {
+    // So few variables that 32 bits number them.
+    let _most = flat.vars.len();
     let vars = flat.vars.as_slice();
     let mut to = List::new(alloc);
     for place in 0..vars.len() {
         if !vars[place].is_node() {
             continue;
         }
-        to.push(place)?;
+        to.push(place as u32)?;
     }
     Ok(to)
 }
@@ -48,6 +50,8 @@ fn place_of(flat: &Flat, node: Node) -> VariablePlace
     ensures is { slice_get (nodes (view_system flat.now)) node.0
         ≡ slice_get (view_system flat.now).variables result.0 }
 {
+    // So few variables that 32 bits number them.
+    let _most = flat.vars.len();
     let vars = flat.vars.as_slice();
     let mut count: usize = 0;
     for k in 0..vars.len() {
@@ -55,7 +59,7 @@ fn place_of(flat: &Flat, node: Node) -> VariablePlace
             continue;
         }
         if count == node.0 {
-            return VariablePlace(k);
+            return VariablePlace(k as u32);
         }
         count += 1;
     }
@@ -69,7 +73,7 @@ pub fn variable_of(flat: &Flat, node: Node) -> &Var
 {
     let place = place_of(flat, node);
     let vars = flat.vars.as_slice();
-    &vars[place.0]
+    &vars[place.0 as usize]
 }
 
 /// The nodes of a system, found once. Contracts see the system.
@@ -77,7 +81,7 @@ pub fn variable_of(flat: &Flat, node: Node) -> &Var
 pub struct Nodes<'a> {
     flat: &'a Flat,
     // Of each node.
-    places: List<usize>,
+    places: List<u32>,
     // Before each variable.
     numbers: List<usize>,
 }
@@ -137,7 +141,7 @@ impl<'a> Nodes<'a> {
     {
         // So few variables that 32 bits number them.
         let _most = self.flat.vars.len();
-        Node(self.numbers.as_slice()[place.0])
+        Node(self.numbers.as_slice()[place.0 as usize])
     }
 
     /// The place of a node among the variables.
@@ -155,6 +159,6 @@ impl<'a> Nodes<'a> {
     {
         let vars = self.flat.vars.as_slice();
         let place = self.place(node);
-        &vars[place.0]
+        &vars[place.0 as usize]
     }
 }

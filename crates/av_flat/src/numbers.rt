@@ -4,9 +4,9 @@
 #[derive(Clone, Copy, Debug, PartialEq, Eq)]
 pub struct Node(pub usize);
 
-/// The place of a variable among all variables of a system, inputs and outputs included.
+/// The place of a variable among all variables of a system, inputs and outputs included, as references and helpers name it.
 #[derive(Clone, Copy, Debug, PartialEq, Eq)]
-pub struct VariablePlace(pub usize);
+pub struct VariablePlace(pub u32);
 
 /// The number of a reading site in its piece: how many references stand before it in the text.
 #[derive(Clone, Copy, Debug, PartialEq, Eq)]

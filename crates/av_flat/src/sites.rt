@@ -7,6 +7,7 @@ ghost use Rattle.av_flat.specs.Sites.{place_of, places_in, places_from};
 ghost use Rattle.av_flat.specs.inner.Walked.{HasPlaces, reference_at};
 
 use crate::flat::Piece;
+use crate::numbers::{SiteNumber, VariablePlace};
 use crate::tree::Tree;
 use av_affine::Map;
 use av_base::{List, Memory};
@@ -18,7 +19,7 @@ use std::marker::Model;
 #[derive(Debug, Drop)]
 pub struct ReadingPlace<'a> {
     pub piece: usize,
-    pub site: u32,
+    pub site: SiteNumber,
     pub tree: &'a Tree,
 }
 
@@ -31,13 +32,13 @@ impl<'a> Model for ReadingPlace<'a> {
 
     ghost coded = { Prim.hlevel (codes, made.the_row.coded) };
 
-    ghost view = { λ p. record { piece = p.piece; site = p.site; tree = p.tree.now } };
+    ghost view = { λ p. record { piece = p.piece; site = p.site.0; tree = p.tree.now } };
 }
 
-/// A reference: its variable, by the place among all variables, and its map.
+/// A reference: the place of its variable, and its map.
 #[derive(Debug, Drop)]
 pub struct Reference<'a> {
-    pub var: u32,
+    pub var: VariablePlace,
     pub map: &'a Map,
 }
 
@@ -50,27 +51,28 @@ impl<'a> Model for Reference<'a> {
 
     ghost coded = { Prim.hlevel (codes, made.the_row.coded) };
 
-    ghost view = { λ r. record { place = r.var; map = r.map.now } };
+    ghost view = { λ r. record { place = r.var.0; map = r.map.now } };
 }
 
 // The number after that of a reference, which is one of so many places.
-fn next_site(site: u32, count: usize) -> u32
-    requires within { site < count }
+fn next_site(site: SiteNumber, count: usize) -> SiteNumber
+    requires within { site.0 < count }
     requires few { count ≤ 1073741824 }
-    ensures { result ≡ site + 1 }
+    ensures { result.0 ≡ site.0 + 1 }
 {
-    site + 1
+    SiteNumber(site.0 + 1)
 }
 
 // Appends the places of a tree; the number of the next reference.
 fn add_places<'a>(
     piece: usize,
-    site: u32,
+    site: SiteNumber,
     tree: &'a Tree,
     places: &mut List<ReadingPlace<'a>>,
-) -> Result<u32, Memory>
-    requires { site ≤ length places.old }
-    ensures { IfOk result (HasPlaces piece site tree.now places.old places.new) }
+) -> Result<SiteNumber, Memory>
+    requires { site.0 ≤ length places.old }
+    ensures { IfOk result (λ next.
+        HasPlaces piece site.0 tree.now places.old places.new next.0) }
 {
     match tree {
         Tree::Ref { .. } => {
@@ -110,7 +112,7 @@ pub fn tree_places<'a>(
     ensures { IfOk result (λ places. map place_of places ≡ places_in piece 0 (view tree.now)) }
 {
     let mut places = List::new(alloc);
-    add_places(piece, 0, tree, &mut places)?;
+    add_places(piece, SiteNumber(0), tree, &mut places)?;
     Ok(places)
 }
 
@@ -124,7 +126,7 @@ pub fn piece_places<'a>(
 {
     let mut places = List::new(alloc);
     for (number, piece) in pieces.iter().enumerate() {
-        add_places(number, 0, &piece.tree, &mut places)?;
+        add_places(number, SiteNumber(0), &piece.tree, &mut places)?;
     }
     Ok(places)
 }
@@ -138,7 +140,10 @@ fn add_reference<'a>(
 {
     let tree = place.tree;
     match tree {
-        Tree::Ref { var, map } => found.push(Reference { var: *var, map }),
+        Tree::Ref { var, map } => found.push(Reference {
+            var: VariablePlace(*var),
+            map,
+        }),
         _ => Ok(()),
     }
 }

@@ -17,8 +17,8 @@ returns-then-count-node-clause-is c =
     let at = viewed_at c.args.flat.now c.as_slice-vars.result.now k a c.as_slice-vars.ensures l c.index-vars-k.is in
     let node : c.is_node.result ≡ true = search rules in
     let n = node_at is_node s.variables k (view_variable a) at (sym c.is_node.ensures ∙ node) in
-    let q : c.loop-k.count ≡ c.args.node = search rules in
-    let e : length (filter is_node (take k s.variables)) ≡ c.args.node = ap (λ xs. length (filter is_node xs)) (take-map view_variable k c.args.flat.now.vars) ∙ sym c.loop-k.invariant.so_far ∙ q in
+    let q : c.loop-k.count ≡ c.args.node.0 = search rules in
+    let e : length (filter is_node (take k s.variables)) ≡ c.args.node.0 = ap (λ xs. length (filter is_node xs)) (take-map view_variable k c.args.flat.now.vars) ∙ sym c.loop-k.invariant.so_far ∙ q in
     subst (λ (i : ℕ). slice_get (nodes s) i ≡ Some (view_variable a)) e n ∙ sym at
 
 pub loop-k-preserved : goal.loop-k-preserved

@@ -8,5 +8,5 @@ abbrev pub invariant-loop-k : goal.invariant-loop-k
 invariant-loop-k l = record {
   so_far : l.count ≡ length (filter is_node (map view_variable (take l.k l.fn.flat.vars)));
   small : l.count ≤ l.k;
-  before : l.count ≤ l.node;
+  before : l.count ≤ l.node.0;
 }
