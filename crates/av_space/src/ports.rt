@@ -170,7 +170,7 @@ fn add_reference(
 {
     let nodes = at.scheduled.timed();
     let timed = nodes.system();
-    let input = &timed.flat.vars.as_slice()[read.var as usize];
+    let input = &timed.flat.vars.as_slice()[read.var.0 as usize];
     if input.kind.is_computed() {
         return Ok(());
     }

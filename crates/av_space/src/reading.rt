@@ -99,13 +99,13 @@ fn place_read(tree: &Tree, point: &Point) -> Option<PlaceRead>
 {
     match tree {
         Tree::Ref { var, map } => Some(PlaceRead {
-            place: VariablePlace(*var as usize),
+            place: VariablePlace(*var),
             point: map.apply(point),
         }),
         Tree::Pick { var, choices, .. } => {
             let point = picked(choices.as_slice(), point)?;
             Some(PlaceRead {
-                place: VariablePlace(*var as usize),
+                place: VariablePlace(*var),
                 point,
             })
         }

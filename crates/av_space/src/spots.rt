@@ -62,11 +62,7 @@ struct PieceOn {
 }
 
 // The helper of a place that is a reference, of the variable at the place `own`.
-fn pipeline(
-    helpers: &[Helper],
-    own: VariablePlace,
-    place: &ReadingPlace<'_>,
-) -> Option<Pipeline>
+fn pipeline(helpers: &[Helper], own: VariablePlace, place: &ReadingPlace<'_>) -> Option<Pipeline>
     ensures { result ≡ pipeline_by helpers.now own.0 (place_of place.now) (view place.now.tree) }
 {
     match place.tree {

@@ -25,9 +25,7 @@ fn is_of(helper: &Helper, at: ReferenceAt) -> bool
     ensures { result ≡ nat_eq helper.now.var at.place.0
         && nat_eq helper.now.piece at.piece && nat_eq helper.now.site at.site.0 }
 {
-    helper.var as usize == at.place.0
-        && helper.piece as usize == at.piece
-        && helper.site == at.site.0
+    helper.var == at.place.0 && helper.piece as usize == at.piece && helper.site == at.site.0
 }
 
 /// The first helper of a reference.
@@ -120,7 +118,7 @@ fn is_own(own: VariablePlace, place: &ReadingPlace<'_>) -> bool
     ensures { result ≡ is_own own.0 (view place.now.tree) }
 {
     match place.tree {
-        Tree::Pick { var, .. } => *var as usize == own.0,
+        Tree::Pick { var, .. } => *var == own.0,
         _ => false,
     }
 }
