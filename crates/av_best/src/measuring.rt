@@ -8,7 +8,7 @@ ghost use Rattle.av_best.specs.Lengths.{IsLength};
 use crate::bound::least_above;
 use crate::span::{points_of, span_over};
 use av_base::Memory;
-use av_flat::Timed;
+use av_flat::{Node, Timed};
 use std::alloc::Global;
 
 /// The length of a legal schedule: its last cycle of a computation and one more, or 0 without a computation.
@@ -21,7 +21,7 @@ pub fn length_of(alloc: Global, timed: &Timed) -> Result<u64, Memory>
     let mut spans = Vec::new(alloc);
     for k in 0..times.len() {
         let time = &times[k];
-        let points = points_of(alloc, &timed.flat, k)?;
+        let points = points_of(alloc, &timed.flat, Node(k))?;
         offsets.push(time.offset)?;
         spans.push(span_over(points.as_slice(), &time.linear))?;
     }

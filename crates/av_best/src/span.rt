@@ -14,7 +14,7 @@ ghost use Rattle.av_best.specs.inner.Spans.{IsSpanOver, ArePointsOf, AreSpansAt,
 use av_base::{List, Memory, Point};
 use av_depend::generating_points;
 use av_elim::box_of;
-use av_flat::{Flat, variable_of};
+use av_flat::{Flat, Node, variable_of};
 use av_sched::products;
 use std::alloc::Global;
 
@@ -44,10 +44,10 @@ pub(crate) fn span_over(points: &[Point], part: &Point) -> PartSpan
 }
 
 /// Points of a node by which every linear part can be judged.
-pub(crate) fn points_of(alloc: Global, flat: &Flat, node: usize) -> Result<List<Point>, Memory>
+pub(crate) fn points_of(alloc: Global, flat: &Flat, node: Node) -> Result<List<Point>, Memory>
     requires chained { IsChained (view_system flat.now) }
-    requires within { node < length (nodes (view_system flat.now)) }
-    ensures { IfOk result (ArePointsOf (view_system flat.now) node) }
+    requires within { node.0 < length (nodes (view_system flat.now)) }
+    ensures { IfOk result (ArePointsOf (view_system flat.now) node.0) }
 {
     let var = variable_of(flat, node);
     match box_of(alloc, &var.domain)? {
@@ -87,7 +87,7 @@ pub(crate) fn spans_of(
 {
     let mut spans = List::new(alloc);
     for k in 0..lists.len() {
-        let points = points_of(alloc, flat, k)?;
+        let points = points_of(alloc, flat, Node(k))?;
         spans.push(spans_at(alloc, points.as_slice(), lists[k].as_slice())?)?;
     }
     Ok(spans)

@@ -15,7 +15,7 @@ use crate::generator::{copy_point, generators};
 use crate::listing::{all_points, points_within};
 use av_affine::Map;
 use av_base::{List, Memory, Point};
-use av_flat::{Choice, Flat, Nodes, ReadingPlace, Tree, copy_map, tree_places};
+use av_flat::{Choice, Flat, Nodes, ReadingPlace, Tree, VariablePlace, copy_map, tree_places};
 use av_poly::{Bounds, Poly, copy_set};
 use std::alloc::Global;
 
@@ -74,10 +74,10 @@ fn narrowed(alloc: Global, reading: &ReadingSet, set: &Poly) -> Result<ReadingSe
 }
 
 /// Whether a computed variable stands at this place.
-pub fn is_computed_at(flat: &Flat, place: u32) -> bool
-    ensures { result ≡ computed_at (slice_get (view_system flat.now).variables place) }
+pub fn is_computed_at(flat: &Flat, place: VariablePlace) -> bool
+    ensures { result ≡ computed_at (slice_get (view_system flat.now).variables place.0) }
 {
-    match flat.vars.as_slice().get(place as usize) {
+    match flat.vars.as_slice().get(place.0 as usize) {
         Some(var) => var.kind.is_computed(),
         None => false,
     }
@@ -98,14 +98,14 @@ fn copy_points(alloc: Global, points: &[Point]) -> Result<List<Point>, Memory>
 fn add_site(
     alloc: Global,
     nodes: &Nodes<'_>,
-    place: u32,
+    place: VariablePlace,
     map: &Map,
     reading: &ReadingSet,
     edges: &mut List<Edge>,
 ) -> Result<(), Memory>
     requires reading { IsReadingSet reading.now }
     ensures { OnOk result (HasAdded (view_system nodes.now)
-        (site_at reading.now.node place map.now reading.now.set ∷ []) edges.old edges.new) }
+        (site_at reading.now.node place.0 map.now reading.now.set ∷ []) edges.old edges.new) }
 {
     if reading.points.as_slice().is_empty() {
         return Ok(());
@@ -115,7 +115,7 @@ fn add_site(
     }
     let edge = Edge {
         consumer: reading.node,
-        producer: nodes.number(place as usize) as u32,
+        producer: nodes.number(place).0 as u32,
         map: copy_map(map),
         points: copy_points(alloc, reading.generators.as_slice())?,
     };
@@ -126,7 +126,7 @@ fn add_site(
 fn add_choices(
     alloc: Global,
     nodes: &Nodes<'_>,
-    place: u32,
+    place: VariablePlace,
     choices: &[Choice],
     reading: &ReadingSet,
     edges: &mut List<Edge>,
@@ -134,7 +134,7 @@ fn add_choices(
     requires reading { IsReadingSet reading.now }
     requires dims { All (λ c. c.set.dim ≡ reading.now.set.dim) choices.now }
     ensures { OnOk result (HasAdded (view_system nodes.now)
-        (map (site_of reading.now.node place reading.now.set) choices.now)
+        (map (site_of reading.now.node place.0 reading.now.set) choices.now)
         edges.old edges.new) }
 {
     for choice in choices {
@@ -159,9 +159,12 @@ fn add_place(
         (sites_at reading.now.node reading.now.set (view place.now.tree)) edges.old edges.new) }
 {
     match place.tree {
-        Tree::Ref { var, map } => add_site(alloc, nodes, *var, map, reading, edges),
+        Tree::Ref { var, map } => {
+            add_site(alloc, nodes, VariablePlace(*var), map, reading, edges)
+        }
         Tree::Pick { var, choices, .. } => {
-            add_choices(alloc, nodes, *var, choices.as_slice(), reading, edges)
+            let place = VariablePlace(*var);
+            add_choices(alloc, nodes, place, choices.as_slice(), reading, edges)
         }
         _ => Ok(()),
     }

@@ -11,24 +11,24 @@ ghost use Rattle.av_pipe.specs.inner.Helping.{HasFinePieces};
 
 use crate::site::piece_helpers;
 use av_base::{List, Memory, Point};
-use av_flat::{Flat, Helper, Nodes, Time, Timed, Var, copy_flat, sign_vectors};
+use av_flat::{Flat, Helper, Node, Nodes, Time, Timed, Var, VariablePlace, copy_flat, sign_vectors};
 use std::alloc::Global;
 
-// Appends the helpers of a variable, where there is a time for the node of this number.
+// Appends the helpers of a variable, where there is a time for the node.
 fn variable_helpers(
     alloc: Global,
-    place: u32,
+    place: VariablePlace,
     times: &[Time],
-    number: usize,
+    node: Node,
     var: &Var,
     helpers: &mut List<Helper>,
 ) -> Result<(), Memory>
     requires linear { All (λ t. AtMost 4 t.linear) times.now }
     requires maps { HasFinePieces (view_variable var.now) }
     ensures { OnOk result (helpers.new
-        ≡ helpers.old ++ of_variable place (slice_get times.now number) (view_variable var.now)) }
+        ≡ helpers.old ++ of_variable place.0 (slice_get times.now node.0) (view_variable var.now)) }
 {
-    match times.get(number) {
+    match times.get(node.0) {
         Some(time) => {
             let points = sign_vectors(alloc, var.domain.dim)?;
             // So few pieces that 32 bits number them.
@@ -52,8 +52,9 @@ fn all_helpers(alloc: Global, flat: &Flat, times: &[Time]) -> Result<List<Helper
     let vars = flat.vars.as_slice();
     let mut helpers = List::new(alloc);
     for (place, var) in vars.iter().enumerate() {
+        let place = VariablePlace(place as u32);
         let node = nodes.number(place);
-        variable_helpers(alloc, place as u32, times, node, var, &mut helpers)?;
+        variable_helpers(alloc, place, times, node, var, &mut helpers)?;
     }
     Ok(helpers)
 }

@@ -10,14 +10,16 @@ ghost use Rattle.av_pipe.specs.inner.Helping.{IsFineMap, HasFineMaps};
 
 use av_affine::Map;
 use av_base::{List, Memory, Point};
-use av_flat::{Helper, Piece, Reference, Tree, first_moving, tree_references};
+use av_flat::{
+    Helper, Piece, Reference, SiteNumber, Tree, VariablePlace, first_moving, tree_references,
+};
 use std::alloc::Global;
 
 // A piece whose references are gone through: the place of its variable, its number, the linear part of its node, and the points
 // among which directions are sought.
 #[derive(Drop)]
 struct MovedPiece<'a> {
-    place: u32,
+    place: VariablePlace,
     number: u32,
     linear: &'a Point,
     points: &'a [Point],
@@ -26,20 +28,20 @@ struct MovedPiece<'a> {
 // Appends the helper of the reference with this number and this map, where it is moved.
 fn reference_helper(
     piece: &MovedPiece<'_>,
-    site: u32,
+    site: SiteNumber,
     map: &Map,
     helpers: &mut List<Helper>,
 ) -> Result<(), Memory>
     requires linear { AtMost 4 piece.now.linear.now }
     requires fine { IsFineMap piece.now.points.now map.now }
     ensures { OnOk result (helpers.new ≡ helpers.old ++ helper_of
-        piece.now.place piece.now.number site (first_moving piece.now.linear.now map.now)) }
+        piece.now.place.0 piece.now.number site.0 (first_moving piece.now.linear.now map.now)) }
 {
     if let Some(direction) = first_moving(piece.linear, map, piece.points) {
         helpers.push(Helper {
-            var: piece.place,
+            var: piece.place.0,
             piece: piece.number,
-            site,
+            site: site.0,
             direction,
         })?;
     }
@@ -56,10 +58,11 @@ fn reference_helpers(
     requires few { length found.now ≤ 1073741824 }
     requires fine { AllByRecursion (λ r. IsFineMap piece.now.points.now r.map) found.now }
     ensures { OnOk result (helpers.new ≡ helpers.old
-        ++ of_references piece.now.place piece.now.number piece.now.linear.now 0 found.now) }
+        ++ of_references piece.now.place.0 piece.now.number piece.now.linear.now 0 found.now) }
 {
     for (site, reference) in found.iter().enumerate() {
-        reference_helper(piece, site as u32, reference.map, helpers)?;
+        let site = SiteNumber(site as u32);
+        reference_helper(piece, site, reference.map, helpers)?;
     }
     Ok(())
 }
@@ -74,7 +77,7 @@ fn tree_helpers(
     requires linear { AtMost 4 piece.now.linear.now }
     requires maps { HasFineMaps piece.now.points.now (view tree.now) }
     ensures { OnOk result (helpers.new ≡ helpers.old ++ of_references
-        piece.now.place piece.now.number piece.now.linear.now 0 (references (view tree.now))) }
+        piece.now.place.0 piece.now.number piece.now.linear.now 0 (references (view tree.now))) }
 {
     let found = tree_references(alloc, tree)?;
     // So few that 32 bits number them.
@@ -85,7 +88,7 @@ fn tree_helpers(
 /// Appends the helpers of the references of a variable's pieces.
 pub(crate) fn piece_helpers(
     alloc: Global,
-    place: u32,
+    place: VariablePlace,
     linear: &Point,
     points: &[Point],
     pieces: &[Piece],
@@ -96,7 +99,7 @@ pub(crate) fn piece_helpers(
     requires maps { AllByRecursion
         (λ p. HasFineMaps points.now p.tree) (map view_piece pieces.now) }
     ensures { OnOk result (helpers.new
-        ≡ helpers.old ++ of_pieces place linear.now 0 (map view_piece pieces.now)) }
+        ≡ helpers.old ++ of_pieces place.0 linear.now 0 (map view_piece pieces.now)) }
 {
     for (number, piece) in pieces.iter().enumerate() {
         let moved = MovedPiece {

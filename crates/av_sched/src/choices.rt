@@ -17,7 +17,7 @@ use crate::price::Price;
 use crate::witness::Witness;
 use av_base::{Memory, Point};
 use av_depend::Edge;
-use av_flat::{Flat, Reach};
+use av_flat::{Flat, Node, Reach};
 use std::alloc::Global;
 use std::marker::Model;
 
@@ -84,12 +84,12 @@ impl<'a> Choices<'a> {
     }
 
     /// The node at a level.
-    pub(crate) fn node(&self, level: usize) -> usize
+    pub(crate) fn node(&self, level: usize) -> Node
         requires { level < length self.now.component }
-        ensures { result ≡ node_at self.now level }
+        ensures { result.0 ≡ node_at self.now level }
     {
         let component = self.component;
-        component[level] as usize
+        Node(component[level] as usize)
     }
 
     /// The linear parts that the node at a level can have, and what each of them costs.

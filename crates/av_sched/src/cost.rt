@@ -17,7 +17,7 @@ ghost use Rattle.av_sched.specs.inner.Walk.{AreAllPriced};
 use crate::price::{Price, at_least, least_of};
 use av_affine::Map;
 use av_base::{List, Memory, Point};
-use av_flat::{Flat, Piece, Tree, along_of, moves, tree_references, variable_of};
+use av_flat::{Flat, Node, Piece, Tree, along_of, moves, tree_references, variable_of};
 use std::alloc::Global;
 
 // The place of an entry in the order.
@@ -111,11 +111,11 @@ fn ways_of_pieces(alloc: Global, pieces: &[Piece]) -> Result<List<List<Point>>, 
 }
 
 // For each broadcast of a node the directions along which it reads one point.
-fn ways_of_node(alloc: Global, flat: &Flat, node: usize) -> Result<List<List<Point>>, Memory>
+fn ways_of_node(alloc: Global, flat: &Flat, node: Node) -> Result<List<List<Point>>, Memory>
     requires chained { IsChained (view_system flat.now) }
-    requires within { node < length (nodes (view_system flat.now)) }
+    requires within { node.0 < length (nodes (view_system flat.now)) }
     ensures { IfOk result (λ ways. ways ≡
-        ways_of (references_of (slice_get (nodes (view_system flat.now)) node))) }
+        ways_of (references_of (slice_get (nodes (view_system flat.now)) node.0))) }
 {
     let var = variable_of(flat, node);
     ways_of_pieces(alloc, var.pieces.as_slice())
@@ -184,7 +184,7 @@ pub(crate) fn prices_of(
 {
     let mut prices = List::new(alloc);
     for k in 0..component.len() {
-        let node = component[k] as usize;
+        let node = Node(component[k] as usize);
         let ways = ways_of_node(alloc, flat, node)?;
         prices.push(prices_at(alloc, ways.as_slice(), lists[k].as_slice())?)?;
     }

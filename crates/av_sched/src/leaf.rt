@@ -9,14 +9,15 @@ use crate::arc::Arc;
 use crate::lead::arc_of;
 use av_base::{List, Memory, Point};
 use av_depend::Edge;
+use av_flat::Node;
 use std::alloc::Global;
 
 // Whether the component has the node.
-fn is_in(component: &[u32], node: u32) -> bool
-    ensures { IsTrue result ↔ Contains component.now node }
+fn is_in(component: &[u32], node: Node) -> bool
+    ensures { IsTrue result ↔ Contains component.now node.0 }
 {
     for other in component {
-        if *other == node {
+        if *other as usize == node.0 {
             return true;
         }
     }
@@ -35,10 +36,10 @@ pub(crate) fn arcs_inside(
 {
     let mut arcs = Vec::new(alloc);
     for edge in edges {
-        if !is_in(component, edge.consumer) {
+        if !is_in(component, Node(edge.consumer as usize)) {
             continue;
         }
-        if !is_in(component, edge.producer) {
+        if !is_in(component, Node(edge.producer as usize)) {
             continue;
         }
         arcs.push(arc_of(edge, linear))?;

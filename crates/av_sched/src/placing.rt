@@ -20,7 +20,7 @@ use crate::lead::arc_of;
 use crate::start::least_value;
 use av_base::{List, Memory, Point};
 use av_depend::Edge;
-use av_flat::{Flat, Nodes, Var};
+use av_flat::{Flat, Node, Nodes, Var};
 use std::alloc::Global;
 
 /// The edges as differences of offsets.
@@ -61,7 +61,7 @@ fn starts_of(alloc: Global, flat: &Flat, linear: &[Point]) -> Result<List<i64>, 
     let nodes = Nodes::new(alloc, flat)?;
     let mut low = List::new(alloc);
     for node in 0..nodes.len() {
-        let var = nodes.variable(node);
+        let var = nodes.variable(Node(node));
         let start = start_of(alloc, var, &linear[node])?;
         low.push(start)?;
     }

@@ -11,6 +11,7 @@ use crate::placing::arcs_of;
 use crate::witness::Witness;
 use av_base::{Memory, Point};
 use av_depend::Edge;
+use av_flat::Node;
 use std::alloc::Global;
 
 /// Memory that the tests use again and again.
@@ -64,12 +65,12 @@ pub fn witness_arcs(
 }
 
 // The place of a node in the component.
-fn place_in(component: &[u32], node: u32) -> Option<usize>
+fn place_in(component: &[u32], node: Node) -> Option<usize>
     ensures within { IfSome result (λ k. k < length component.now) }
-    ensures is { IfSome result (λ k. slice_index_or component.now k 0 ≡ node) }
+    ensures is { IfSome result (λ k. slice_index_or component.now k 0 ≡ node.0) }
 {
     for k in 0..component.len() {
-        if component[k] == node {
+        if component[k] as usize == node.0 {
             return Some(k);
         }
     }
@@ -164,10 +165,10 @@ pub(crate) fn learn(
             continue;
         }
         let edge = &edges[k];
-        let Some(reader) = place_in(component, edge.consumer) else {
+        let Some(reader) = place_in(component, Node(edge.consumer as usize)) else {
             continue;
         };
-        let Some(read) = place_in(component, edge.producer) else {
+        let Some(read) = place_in(component, Node(edge.producer as usize)) else {
             continue;
         };
         let witness = witness_of_edge(edge, reader, read, linear);

@@ -119,7 +119,7 @@ impl<'a> Walk<'a> {
         ensures { result ≡ part_at self.now level }
     {
         let node = self.choices.node(level);
-        copy_point(&self.linear[node])
+        copy_point(&self.linear[node.0])
     }
 
     // Gives the node at the level a linear part.
@@ -129,7 +129,7 @@ impl<'a> Walk<'a> {
         ensures { self.new ≡ with_part self.old level part.now }
     {
         let node = self.choices.node(level);
-        self.linear[node] = copy_point(part);
+        self.linear[node.0] = copy_point(part);
     }
 
     // Whether the choices with the same parts for the first nodes can be left out.

@@ -17,14 +17,14 @@ loop-node-init c = let s = view_system c.args.flat.now in subst (HasAdded s [] [
 pub add_variable-requires : goal.add_variable-requires
 add_variable-requires c =
     let chained = subst (λ (f : Flat). IsChained (view_system f)) (sym c.in_ok-nodes.ensures) c.requires.chained in
-    chained_node (view_system c.in_ok-nodes.nodes) c.loop-node.node (view_variable c.variable.result.now) chained c.variable.ensures
+    chained_node (view_system c.in_ok-nodes.nodes) c.loop-node.node (view_variable c.variable-var.result.now) chained c.variable-var.ensures
 
 pub loop-node-preserved : goal.loop-node-preserved
 loop-node-preserved c =
     let s = view_system c.args.flat.now in
-    let v = view_variable c.variable.result.now in
+    let v = view_variable c.variable-var.result.now in
     let n = c.loop-node.node in
-    let is = subst (λ (f : Flat). slice_get (nodes (view_system f)) n ≡ Some v) c.in_ok-nodes.ensures c.variable.ensures in
+    let is = subst (λ (f : Flat). slice_get (nodes (view_system f)) n ≡ Some v) c.in_ok-nodes.ensures c.variable-var.ensures in
     let one = subst (λ (f : Flat). HasAdded (view_system f) (sites_of n v) c.loop-node.list c.add_variable.new.edges) c.in_ok-nodes.ensures c.in_ok-add_variable.ensures in
     walked_more s n v c.loop-node.list c.add_variable.new.edges is c.loop-node.invariant one
 

@@ -26,7 +26,7 @@ loop-place-preserved c =
     let next : drop i vars ≡ x ∷ drop (i + 1) vars = next_item vars i x l c.index-vars-place.is in
     record {
       maps = (subst (λ (xs : List Var). AllByRecursion HasFinePieces (map view_variable xs)) next c.loop-place.invariant.maps).1;
-      made = made_more s c.args.times.now i (view_variable x) (map view_variable (drop (i + 1) vars)) c.loop-place.helpers c.variable_helpers.new.helpers (pipelines s c.args.times.now) c.number-node.result
+      made = made_more s c.args.times.now i (view_variable x) (map view_variable (drop (i + 1) vars)) c.loop-place.helpers c.variable_helpers.new.helpers (pipelines s c.args.times.now) c.number-node.result.0
           (c.number-node.ensures.is ∙ ap (λ (f : Flat). number_at (view_system f) i) c.in_ok-nodes.ensures)
           (subst (λ (xs : List Var). c.loop-place.helpers ++ of_variables s c.args.times.now i (map view_variable xs) ≡ pipelines s c.args.times.now) next c.loop-place.invariant.made)
           c.in_ok-variable_helpers.ensures;

@@ -9,5 +9,5 @@ use Rattle.av_pipe.proofs.site.piece_helpers.Given as goal
 abbrev pub invariant-loop-number : goal.invariant-loop-number
 invariant-loop-number l = record {
   maps : AllByRecursion (λ (p : Piece). HasFineMaps l.points p.tree) (map view_piece (drop l.number l.pieces));
-  made : l.helpers ++ of_pieces l.place l.linear l.number (map view_piece (drop l.number l.pieces)) ≡ l.initial.helpers ++ of_pieces l.place l.linear 0 (map view_piece l.pieces);
+  made : l.helpers ++ of_pieces l.place.0 l.linear l.number (map view_piece (drop l.number l.pieces)) ≡ l.initial.helpers ++ of_pieces l.place.0 l.linear 0 (map view_piece l.pieces);
 }

@@ -9,5 +9,5 @@ use Rattle.av_pipe.proofs.site.reference_helpers.Given as goal
 abbrev pub invariant-loop-site : goal.invariant-loop-site
 invariant-loop-site l = record {
   fine : AllByRecursion (λ (r : Reference). IsFineMap l.piece.points.now r.map) (drop l.site l.found);
-  made : l.helpers ++ of_references l.piece.place l.piece.number l.piece.linear.now l.site (drop l.site l.found) ≡ l.initial.helpers ++ of_references l.piece.place l.piece.number l.piece.linear.now 0 l.found;
+  made : l.helpers ++ of_references l.piece.place.0 l.piece.number l.piece.linear.now l.site (drop l.site l.found) ≡ l.initial.helpers ++ of_references l.piece.place.0 l.piece.number l.piece.linear.now 0 l.found;
 }

@@ -16,4 +16,4 @@ reference_helpers-requires-clause-fine c =
 pub returns : goal.returns
 returns c =
     let are : c.as_slice.result.now ≡ references (view c.args.tree.now) = c.as_slice.ensures ∙ c.in_ok-found.ensures in
-    on_ok_weaker c.reference_helpers.result (λ e. e ∙ ap (λ (rs : List Reference). c.args.helpers.now ++ of_references c.args.piece.now.place c.args.piece.now.number c.args.piece.now.linear.now 0 rs) are) c.reference_helpers.ensures
+    on_ok_weaker c.reference_helpers.result (λ e. e ∙ ap (λ (rs : List Reference). c.args.helpers.now ++ of_references c.args.piece.now.place.0 c.args.piece.now.number c.args.piece.now.linear.now 0 rs) are) c.reference_helpers.ensures

@@ -28,7 +28,7 @@ loop-reference-preserved c =
     let x = c.reference-item.result in
     let old = c.args.to.now in
     let l : i < length items = search rules in
-    c.in_ok-add_way.ensures c.reference.inside.var ∙ ap (λ (r : Reference). c.loop-reference.to ++ ways_of (r ∷ [])) c.reference.view_is
+    c.in_ok-add_way.ensures c.reference.inside.var.0 ∙ ap (λ (r : Reference). c.loop-reference.to ++ ways_of (r ∷ [])) c.reference.view_is
     ∙ ap (λ (ws : List (List Point)). ws ++ ways_of (x ∷ [])) c.loop-reference.invariant ∙ append_assoc old (ways_of (take i items)) (ways_of (x ∷ []))
     ∙ ap (λ (ws : List (List Point)). old ++ ws) (sym (ap ways_of (next_taken items i x l c.reference-item.is) ∙ ways_append (take i items) (x ∷ [])))
 

@@ -17,7 +17,7 @@ pub ways_of_pieces-requires : goal.ways_of_pieces-requires
 ways_of_pieces-requires c =
     let s = view_system c.args.flat.now in
     let a = c.variable_of-var.result.now in
-    subst (All (λ (p : PieceMade). HasSmallReferences (view p.tree))) (sym c.as_slice.ensures) (small_seen s a (chained_node s c.args.node (view_variable a) c.requires.chained c.variable_of-var.ensures))
+    subst (All (λ (p : PieceMade). HasSmallReferences (view p.tree))) (sym c.as_slice.ensures) (small_seen s a (chained_node s c.args.node.0 (view_variable a) c.requires.chained c.variable_of-var.ensures))
 
 pub returns : goal.returns
 returns c =
@@ -25,5 +25,5 @@ returns c =
     let a = c.variable_of-var.result.now in
     let seen = ap ways_of (ap (λ (ps : List PieceMade). flat_map (λ (p : PieceMade). references (view p.tree)) ps) c.as_slice.ensures ∙ sym (pieces_seen a.pieces)) in
     let whole = seen ∙ ap (λ (o : Option Variable). ways_of (references_of o)) (sym c.variable_of-var.ensures) in
-    IfOk-weaker c.ways_of_pieces.result (λ (ways : List (List Point)). ways ≡ ways_of (flat_map (λ (p : PieceMade). references (view p.tree)) c.as_slice.result.now)) (λ (ways : List (List Point)). ways ≡ ways_of (references_of (slice_get (nodes s) c.args.node)))
+    IfOk-weaker c.ways_of_pieces.result (λ (ways : List (List Point)). ways ≡ ways_of (flat_map (λ (p : PieceMade). references (view p.tree)) c.as_slice.result.now)) (λ (ways : List (List Point)). ways ≡ ways_of (references_of (slice_get (nodes s) c.args.node.0)))
     (λ ways e. e ∙ whole) c.ways_of_pieces.ensures

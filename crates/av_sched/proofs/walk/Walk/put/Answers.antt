@@ -11,7 +11,7 @@ pub index_mut-requires : goal.index_mut-requires
 index_mut-requires c =
     let w = c.self.inside in
     let fits = subst (λ (v : Walk). c.args.level < length v.choices.component) (sym c.self.view_is) c.requires.level in
-    let within = node_fits w.choices.now c.args.level c.node-node.result w.linear.items c.self.invariant.fits c.self.invariant.valid fits c.node-node.ensures in
+    let within = node_fits w.choices.now c.args.level c.node-node.result.0 w.linear.items c.self.invariant.fits c.self.invariant.valid fits c.node-node.ensures in
     let long : w.linear.len ≡ length w.linear.items = w.linear.ok.0 in
     omega (arith, within, long)
 
@@ -24,11 +24,11 @@ invariant_of-self c =
     let own = subst (λ (v : Walk). IsPartAt v.choices level c.args.part.now) (sym c.self.view_is) c.requires.part in
     record {
       fits = c.self.invariant.fits;
-      valid = put_valid d level c.node-node.result c.copy_point.result c.args.part.now fits c.self.invariant.fits c.node-node.ensures c.copy_point.ensures w.linear.items own c.self.invariant.valid;
+      valid = put_valid d level c.node-node.result.0 c.copy_point.result c.args.part.now fits c.self.invariant.fits c.node-node.ensures c.copy_point.ensures w.linear.items own c.self.invariant.valid;
       pool = c.self.invariant.pool;
       sound = c.self.invariant.sound;
       rated = c.self.invariant.rated;
-      like = put_like d level c.node-node.result c.copy_point.result c.args.part.now fits c.self.invariant.fits c.node-node.ensures c.copy_point.ensures w.linear.items (known w.best) c.self.invariant.like;
+      like = put_like d level c.node-node.result.0 c.copy_point.result c.args.part.now fits c.self.invariant.fits c.node-node.ensures c.copy_point.ensures w.linear.items (known w.best) c.self.invariant.like;
     }
 
 pub returns : goal.returns
@@ -36,4 +36,4 @@ returns c =
     let w = c.self.inside in
     let level = c.args.level in
     let fits = subst (λ (v : Walk). level < length v.choices.component) (sym c.self.view_is) c.requires.level in
-    put_is w.choices.now level c.node-node.result c.copy_point.result c.args.part.now fits c.self.invariant.fits c.node-node.ensures c.copy_point.ensures w.linear.items (known w.best) c.args.self.now c.self.view_is
+    put_is w.choices.now level c.node-node.result.0 c.copy_point.result c.args.part.now fits c.self.invariant.fits c.node-node.ensures c.copy_point.ensures w.linear.items (known w.best) c.args.self.now c.self.view_is
