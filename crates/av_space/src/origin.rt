@@ -20,7 +20,7 @@ use crate::tap::{Pipeline, TapSite, Way};
 use crate::tapping::same;
 use av_base::{Point, Word};
 use av_depend::is_computed_at;
-use av_flat::Tree;
+use av_flat::{Tree, VariablePlace};
 
 /// Where a place of a piece reads in a cycle.
 #[derive(Clone, Copy, Debug, PartialEq, Eq)]
@@ -191,7 +191,7 @@ impl Array<'_> {
         let place = &site.place;
         match place.tree {
             Tree::Ref { var, .. } => {
-                if !is_computed_at(&self.timed.flat, *var) {
+                if !is_computed_at(&self.timed.flat, VariablePlace(*var)) {
                     return Origin::Port(self.port(spot, site, slot));
                 }
                 let Some(reading) = self.linked(spot, site, slot) else {

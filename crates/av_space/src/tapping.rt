@@ -104,10 +104,20 @@ fn add_taps<'a>(
                 site: place.site,
             };
             let pipeline = helper_at(helpers, at);
-            add_taps_by(is_computed_at(&timed.flat, *var), pipeline, place, sites)
+            add_taps_by(
+                is_computed_at(&timed.flat, VariablePlace(*var)),
+                pipeline,
+                place,
+                sites,
+            )
         }
         Tree::Pick { var, .. } => {
-            add_taps_by(is_computed_at(&timed.flat, *var), None, place, sites)
+            add_taps_by(
+                is_computed_at(&timed.flat, VariablePlace(*var)),
+                None,
+                place,
+                sites,
+            )
         }
         _ => Ok(()),
     }
