@@ -75,9 +75,11 @@ fn reference_of<'a, 'b>(pieces: &'b Pieces<'a>, port: &InPort) -> &'b Site<'a>
     for k in 0..spots.len() {
         if spots[k].number == port.piece as usize {
             // As many references stand before it, so that it is sought from its number on.
-            let first = port.site as usize;
-            let later = &pieces.sites.as_slice()[k].as_slice()[first..];
-            return reference_at(later, SiteNumber(port.site));
+            let number = port.site as usize;
+            return reference_at(
+                &pieces.sites.as_slice()[k].as_slice()[number..],
+                SiteNumber(port.site),
+            );
         }
     }
     unreachable!()

@@ -162,7 +162,7 @@ module _ (a : Array) (is : IsArray a) (at : Spot) (spot : IsSpot a at) (mine : S
         → IsReferenceOrigin a at slot.cycle mine.place.site place m (own_way mine.pipeline) (origin.Value (record { 0 = k }) d)
     reads_link c k d l =
         let w = node_read a is at spot mine placed slot on (computed_tree c) place (image m.rows slot.point) reads in
-        over_link k d w.variable w.is w.node (subst (λ (x : Place). IsLinkedBy a at slot.cycle (record { place = x; way = own_way mine.pipeline }) k d) same l)
+        over_link (record { 0 = k }) d w.variable w.is w.node (subst (λ (x : Place). IsLinkedBy a at slot.cycle (record { place = x; way = own_way mine.pipeline }) k d) same l)
       where
         same : q ≡ record { piece = at.number; site = mine.place.site; tree = reference place m }
         same = ap (λ (n : ℕ). record { piece = n; site = mine.place.site; tree = q.tree }) (piece_is a is at spot mine placed) ∙ ap (λ (t : Tree). record { piece = at.number; site = mine.place.site; tree = t }) tree
@@ -197,4 +197,4 @@ module _ (a : Array) (is : IsArray a) (at : Spot) (spot : IsSpot a at) (mine : S
             never r = let f = subst (λ (t : Tree). IsReadBy t slot.point r.0 there.point) tree r.1 in let g = sym e ∙ f.1 in absurd cc
         by (Some y) e =
             let w = node_read a is at spot mine placed slot on pick_read place y (reads_point y e) in
-            (k, d, w.variable, w.is, w.node, subst (λ (h : Option Pipeline). IsLinkedBy a at slot.cycle (own_tap q h) k d) no_pipeline l, refl)
+            (record { 0 = k }, d, w.variable, w.is, w.node, subst (λ (h : Option Pipeline). IsLinkedBy a at slot.cycle (own_tap q h) k d) no_pipeline l, refl)

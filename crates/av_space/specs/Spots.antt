@@ -17,6 +17,7 @@ use Rattle.av_space.specs.declared.array.Array.{Array}
 use Rattle.av_space.specs.declared.cells.Cell.{Cell}
 use Rattle.av_space.specs.declared.cells.Link.{Link}
 use Rattle.av_space.specs.declared.layout.Slot.{Slot}
+use Rattle.av_space.specs.declared.numbers.CellNumber.{CellNumber}
 use Rattle.av_space.specs.declared.origin.Origin.{Origin}
 use Rattle.av_space.specs.declared.origin.Origin.TheVariants as origin
 use Rattle.av_space.specs.declared.spots.Ends.{Ends}
@@ -146,16 +147,16 @@ pub data IsReferenceOrigin (a : Array) (at : Spot) (c i place : ℕ) (m : Map) (
       → slice_get (references (view at.piece.now.tree)) i ≡ Some (record { place = place; map = m })
       → slice_get a.cells.now.inputs n ≡ Some (record { cell = at.cell.0; piece = at.number; site = i })
       → IsReferenceOrigin a at c i place m way (origin.Port n)
-  over_link : (q d : ℕ) (read : Variable) → slice_get (system_of a).variables place ≡ Some read → IsTrue (is_node read)
-      → IsLinkedBy a at c (record { place = record { piece = at.number; site = i; tree = reference place m }; way = way }) q d
-      → IsReferenceOrigin a at c i place m way (origin.Value (record { 0 = q }) d)
+  over_link : (q : CellNumber) (d : ℕ) (read : Variable) → slice_get (system_of a).variables place ≡ Some read → IsTrue (is_node read)
+      → IsLinkedBy a at c (record { place = record { piece = at.number; site = i; tree = reference place m }; way = way }) q.0 d
+      → IsReferenceOrigin a at c i place m way (origin.Value q d)
 
 -- a pick of the variable at a place reads over a link where a choice holds, and else has its number
 abbrev pub IsPickOrigin : Array → Spot → ℕ → Place → ℕ → ℕ → Option Point → Origin → Type 0
 IsPickOrigin a at c p place n None o = o ≡ origin.Number (record { bits = n })
 IsPickOrigin a at c p place n (Some y) o =
-    (q : ℕ) × (d : ℕ) × (read : Variable) × (slice_get (system_of a).variables place ≡ Some read) × IsTrue (is_node read)
-    × IsLinkedBy a at c (record { place = p; way = each }) q d × (o ≡ origin.Value (record { 0 = q }) d)
+    (q : CellNumber) × (d : ℕ) × (read : Variable) × (slice_get (system_of a).variables place ≡ Some read) × IsTrue (is_node read)
+    × IsLinkedBy a at c (record { place = p; way = each }) q.0 d × (o ≡ origin.Value q d)
 
 -- where a place of the spot, with its helper, reads itself at a computation
 abbrev pub IsOriginBy : Array → Spot → Slot → Place → Option Pipeline → Tree → Origin → Type 0

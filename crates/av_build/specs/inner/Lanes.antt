@@ -147,7 +147,7 @@ pub record HasPortPlace (pieces : Pieces) (port : InPort) : Type 0 where
 
 -- on both cells stand the same pieces of one node
 abbrev pub HaveSamePieces : List SpotPlan → List SpotPlan → Type 0
-HaveSamePieces a b = (length a ≡ length b) × ((k : ℕ) (x y : SpotPlan) → slice_get a k ≡ Some x → slice_get b k ≡ Some y → (x.node ≡ y.node) × (x.number ≡ y.number))
+HaveSamePieces a b = (length a ≡ length b) × ((k : ℕ) (x y : SpotPlan) → slice_get a k ≡ Some x → slice_get b k ≡ Some y → (x.node.0 ≡ y.node.0) × (x.number ≡ y.number))
 
 -- the first cells of kinds, of which none has the pieces of the cell
 abbrev pub HasNoKind : List CellPlan → List ℕ → CellPlan → Type 0
