@@ -17,7 +17,7 @@ use crate::missing::first_missing;
 use crate::word_map::WordMap;
 use crate::{DataFault, Inputs};
 use av_base::{List, Memory, Name, Point};
-use av_flat::Flat;
+use av_flat::{Flat, VariablePlace};
 use av_table::NameSet;
 use std::alloc::Global;
 
@@ -48,9 +48,9 @@ fn kept_names(alloc: Global, flat: &Flat) -> Result<List<Name>, Memory>
 }
 
 // A point of the variable there has no line.
-fn missing(alloc: Global, flat: &Flat, place: usize, point: Point) -> DataFault
-    requires { place < length flat.now.vars }
-    ensures { TellsMissing (view_system flat.now) place point result }
+fn missing(alloc: Global, flat: &Flat, place: VariablePlace, point: Point) -> DataFault
+    requires { place.0 < length flat.now.vars }
+    ensures { TellsMissing (view_system flat.now) place.0 point result }
 {
     let var = variable_at(flat.vars.as_slice(), place);
     match Name::new(alloc, var.name.as_str()) {

@@ -1,17 +1,19 @@
 //! The words that inputs are given.
 
-ghost use Rattle.std.specs.Prelude.{◌≡◌, Some, None, IfSome, IfNone};
+ghost use Rattle.std.specs.Prelude.{◌≡◌, ◌<◌, length, Some, None, IfSome, IfNone};
 ghost use Rattle.std.specs.List.{position};
 ghost use Rattle.std.specs.Str.{bytes_eq};
 ghost use Rattle.av_data.specs.Inputs.{words_of};
 
 use crate::word_map::WordMap;
 use av_base::{List, Name, Point, Word};
+use av_flat::VariablePlace;
 use std::marker::Model;
 
 // The first place of a name.
 fn place_of(names: &[Name], name: &Name) -> Option<usize>
-    ensures { result ≡ position (bytes_eq name.now) names.now }
+    ensures place { result ≡ position (bytes_eq name.now) names.now }
+    ensures within { IfSome result (λ place. place < length names.now) }
 {
     names
         .iter()
@@ -42,7 +44,9 @@ impl Inputs {
             words_of self.now variable.now point.now ≡ Some word.bits) }
         ensures none { IfNone result (words_of self.now variable.now point.now ≡ None) }
     {
+        // So few variables that 32 bits number them.
+        let _most = self.names.len();
         let place = place_of(self.names.as_slice(), variable)?;
-        self.words.word(place, point)
+        self.words.word(VariablePlace(place as u32), point)
     }
 }

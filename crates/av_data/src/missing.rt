@@ -17,7 +17,7 @@ use crate::data_lines::variable_at;
 use crate::word_map::WordMap;
 use av_base::{Memory, Point};
 use av_elim::box_of;
-use av_flat::Flat;
+use av_flat::{Flat, VariablePlace};
 use av_poly::{Bounds, Poly};
 use std::alloc::Global;
 
@@ -75,18 +75,18 @@ fn point_after(set: &Poly, extent: &Bounds, z: &Point) -> Option<Point>
 fn missing_point(
     alloc: Global,
     words: &WordMap,
-    place: usize,
+    place: VariablePlace,
     domain: &Poly,
 ) -> Result<Option<Point>, Memory>
     requires few { domain.now.dim ≤ 4 }
     requires rows { All IsWithinLimits domain.now.rows }
     requires bounded { IsBounded domain.now }
     ensures missing { IfOk result (λ o. IfSome o (λ z. Has domain.now z
-        × (word_among words.now place z ≡ None))) }
+        × (word_among words.now place.0 z ≡ None))) }
     ensures least { IfOk result (λ o. IfSome o (λ z. (y : Items ℤ)
-        → Has domain.now y → IsBefore y z → IsSome (word_among words.now place y))) }
+        → Has domain.now y → IsBefore y z → IsSome (word_among words.now place.0 y))) }
     ensures none { IfOk result (λ o.
-        IfNone o ((y : Items ℤ) → Has domain.now y → IsSome (word_among words.now place y))) }
+        IfNone o ((y : Items ℤ) → Has domain.now y → IsSome (word_among words.now place.0 y))) }
 {
     let Some(extent) = box_of(alloc, domain)? else {
         return Ok(None);
@@ -106,16 +106,19 @@ pub(crate) fn first_missing(
     alloc: Global,
     flat: &Flat,
     words: &WordMap,
-) -> Result<Option<(usize, Point)>, Memory>
+) -> Result<Option<(VariablePlace, Point)>, Memory>
     requires readable { IsReadable (view_system flat.now) }
-    ensures within { IfOk result (λ o. IfSome o (λ found. found.0 < length flat.now.vars)) }
+    ensures within { IfOk result (λ o. IfSome o (λ found. found.0.0 < length flat.now.vars)) }
     ensures missing { IfOk result (λ o.
-        IfSome o (λ found. IsMissingAt (view_system flat.now) words.now found.0 found.1)) }
+        IfSome o (λ found. IsMissingAt (view_system flat.now) words.now found.0.0 found.1)) }
     ensures none { IfOk result (λ o.
         IfNone o (AreWhole (view_system flat.now) words.now (length flat.now.vars))) }
 {
+    // So few variables that 32 bits number them.
+    let _most = flat.vars.len();
     let vars = flat.vars.as_slice();
     for place in 0..vars.len() {
+        let place = VariablePlace(place as u32);
         let var = variable_at(vars, place);
         if var.kind.is_computed() {
             continue;

@@ -8,7 +8,7 @@ ghost use Rattle.av_space.specs.Arrays.{IsArrayOf};
 ghost use Rattle.av_data.specs.Tables.{named_cell_line, cell_lines, listed_line, totals_line, table_text};
 
 use av_base::{Sink, WriteFault};
-use av_flat::{Flat, Timed, Var, variable_of};
+use av_flat::{Flat, Node, Timed, Var, variable_of};
 use av_net::Entry;
 use av_page::Page;
 use av_space::{Cell, Cells};
@@ -49,7 +49,7 @@ fn write_cells<K: Sink>(page: &mut Page, sink: &mut K, flat: &Flat, cells: &[Cel
         (cell_lines (nodes (view_system flat.now)) 0 cells.now) }
 {
     for k in 0..cells.len() {
-        let var = variable_of(flat, cells[k].node as usize);
+        let var = variable_of(flat, Node(cells[k].node as usize));
         write_cell(page, sink, var, k, &cells[k]);
     }
 }

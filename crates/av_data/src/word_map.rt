@@ -4,6 +4,7 @@ ghost use Rattle.av_data.specs.Inputs.{is_at, word_among};
 
 use arrayvec::ArrayVec;
 use av_base::{Memory, Point, Word};
+use av_flat::VariablePlace;
 use std::alloc::Global;
 use std::collections::BTreeMap;
 use std::marker::Model;
@@ -45,12 +46,12 @@ impl WordMap {
     }
 
     /// The word of a point, where it has one.
-    pub(crate) fn word(&self, place: usize, point: &Point) -> Option<Word>
+    pub(crate) fn word(&self, place: VariablePlace, point: &Point) -> Option<Word>
         ensures some { IfSome result (λ word.
-            word_among self.now place point.now ≡ Some word.bits) }
-        ensures none { IfNone result (word_among self.now place point.now ≡ None) }
+            word_among self.now place.0 point.now ≡ Some word.bits) }
+        ensures none { IfNone result (word_among self.now place.0 point.now ≡ None) }
     {
-        let key = (place, entries_of(point));
+        let key = (place.0 as usize, entries_of(point));
         match self.words.get(&key) {
             Some(bits) => Some(Word { bits: *bits }),
             None => None,
@@ -58,14 +59,19 @@ impl WordMap {
     }
 
     /// Gives a point its word, where it has none. Whether it had none.
-    pub(crate) fn give(&mut self, place: usize, point: &Point, word: Word) -> Result<bool, Memory>
+    pub(crate) fn give(
+        &mut self,
+        place: VariablePlace,
+        point: &Point,
+        word: Word,
+    ) -> Result<bool, Memory>
         ensures is_new { IfOk result (λ is_new.
-            is_new ≡ not (is_some (word_among self.old place point.now))) }
+            is_new ≡ not (is_some (word_among self.old place.0 point.now))) }
         ensures given { IfOk result (λ is_new. (p : ℕ) (z : Entries)
-            → word_among self.new p z ≡ (if is_new && is_at place point.now p z
+            → word_among self.new p z ≡ (if is_new && is_at place.0 point.now p z
             then Some word.bits else word_among self.old p z)) }
     {
-        let key = (place, entries_of(point));
+        let key = (place.0 as usize, entries_of(point));
         if self.words.contains_key(&key) {
             return Ok(false);
         }

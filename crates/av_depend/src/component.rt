@@ -7,18 +7,19 @@ ghost use Rattle.av_depend.specs.inner.Reaching.{leads, IsSquare, IsComponentIn}
 use crate::edge::Edge;
 use crate::reach::each_reached;
 use av_base::{List, Memory};
+use av_flat::Node;
 use std::alloc::Global;
 
 // Whether each of the two nodes is reached from the other.
-fn are_together(rows: &[List<bool>], one: u32, other: u32) -> bool
+fn are_together(rows: &[List<bool>], one: Node, other: Node) -> bool
     requires square { IsSquare (length rows.now) rows.now }
-    requires one { one < length rows.now }
-    requires other { other < length rows.now }
+    requires one { one.0 < length rows.now }
+    requires other { other.0 < length rows.now }
     ensures { IsTrue result
-        ↔ (IsTrue (leads rows.now one other) × IsTrue (leads rows.now other one)) }
+        ↔ (IsTrue (leads rows.now one.0 other.0) × IsTrue (leads rows.now other.0 one.0)) }
 {
-    let there = rows[one as usize].as_slice()[other as usize];
-    let back = rows[other as usize].as_slice()[one as usize];
+    let there = rows[one.0].as_slice()[other.0];
+    let back = rows[other.0].as_slice()[one.0];
     there && back
 }
 
@@ -27,16 +28,16 @@ fn component_of(
     alloc: Global,
     rows: &[List<bool>],
     nodes: u32,
-    node: u32,
+    node: Node,
 ) -> Result<List<u32>, Memory>
     requires size { length rows.now ≡ nodes }
     requires square { IsSquare nodes rows.now }
-    requires node { node < nodes }
-    ensures { IfOk result (IsComponentIn nodes rows.now node) }
+    requires node { node.0 < nodes }
+    ensures { IfOk result (IsComponentIn nodes rows.now node.0) }
 {
     let mut list = List::new(alloc);
     for other in 0..nodes {
-        if !are_together(rows, node, other) {
+        if !are_together(rows, node, Node(other as usize)) {
             continue;
         }
         list.push(other)?;
@@ -62,7 +63,7 @@ pub fn components(alloc: Global, edges: &[Edge], nodes: u32) -> Result<List<List
     let rows = each_reached(alloc, edges, nodes)?;
     let mut list = List::new(alloc);
     for node in 0..nodes {
-        let component = component_of(alloc, rows.as_slice(), nodes, node)?;
+        let component = component_of(alloc, rows.as_slice(), nodes, Node(node as usize))?;
         if first_of(component.as_slice()) != node {
             continue;
         }

@@ -7,6 +7,7 @@ ghost use Rattle.av_depend.specs.inner.Reaching.{IsOpen, IsClosed, IsReached, Ar
 
 use crate::edge::Edge;
 use av_base::{List, Memory};
+use av_flat::Node;
 use std::alloc::Global;
 
 // Whether the edge leads from a marked node to one without a mark.
@@ -25,16 +26,16 @@ fn leads_out(edge: &Edge, marks: &[bool]) -> bool
 }
 
 // A node without a mark to which an edge leads from a marked one.
-fn open_node(edges: &[Edge], marks: &[bool]) -> Option<u32>
+fn open_node(edges: &[Edge], marks: &[bool]) -> Option<Node>
     requires consumers { All (λ e. e.consumer < length marks.now) edges.now }
     requires producers { All (λ e. e.producer < length marks.now) edges.now }
-    ensures found { IfSome result (IsOpen edges.now marks.now) }
-    ensures below { IfSome result (λ node. node < length marks.now) }
+    ensures found { IfSome result (λ node. IsOpen edges.now marks.now node.0) }
+    ensures below { IfSome result (λ node. node.0 < length marks.now) }
     ensures closed { IfNone result (IsClosed edges.now marks.now) }
 {
     for edge in edges {
         if leads_out(edge, marks) {
-            return Some(edge.producer);
+            return Some(Node(edge.producer as usize));
         }
     }
     None
@@ -52,16 +53,16 @@ fn unmarked(alloc: Global, nodes: u32) -> Result<List<bool>, Memory>
 }
 
 // Of each node whether it is reached from this one.
-fn reached(alloc: Global, edges: &[Edge], nodes: u32, from: u32) -> Result<List<bool>, Memory>
+fn reached(alloc: Global, edges: &[Edge], nodes: u32, from: Node) -> Result<List<bool>, Memory>
     requires consumers { All (λ e. e.consumer < nodes) edges.now }
     requires producers { All (λ e. e.producer < nodes) edges.now }
-    requires from { from < nodes }
-    ensures { IfOk result (IsReached nodes (IsJoined edges.now) from) }
+    requires from { from.0 < nodes }
+    ensures { IfOk result (IsReached nodes (IsJoined edges.now) from.0) }
 {
     let mut marks = unmarked(alloc, nodes)?;
-    marks.set(from as usize, true);
+    marks.set(from.0, true);
     while let Some(node) = open_node(edges, marks.as_slice()) {
-        marks.set(node as usize, true);
+        marks.set(node.0, true);
     }
     Ok(marks)
 }
@@ -78,7 +79,7 @@ pub(crate) fn each_reached(
 {
     let mut rows = List::new(alloc);
     for from in 0..nodes {
-        rows.push(reached(alloc, edges, nodes, from)?)?;
+        rows.push(reached(alloc, edges, nodes, Node(from as usize))?)?;
     }
     Ok(rows)
 }

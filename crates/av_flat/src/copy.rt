@@ -3,7 +3,7 @@
 ghost use Rattle.std.specs.Prelude.{◌≡◌, IfOk, map};
 ghost use Rattle.av_flat.specs.Trees.{view, pick, view_piece, view_variable, view_system};
 
-use crate::{Choice, Flat, Piece, Tree, Var};
+use crate::{Choice, Flat, Piece, Tree, Var, VariablePlace};
 use av_affine::{Map, Rows};
 use av_base::{List, Memory, Word};
 use av_poly::copy_set;
@@ -62,17 +62,22 @@ pub fn copy_tree(alloc: Global, tree: &Tree) -> Result<Tree, Memory>
             var,
             choices,
             otherwise,
-        } => copy_pick(alloc, *var, choices.as_slice(), *otherwise),
+        } => copy_pick(alloc, VariablePlace(*var), choices.as_slice(), *otherwise),
     }
 }
 
 /// The same pick.
-fn copy_pick(alloc: Global, var: u32, choices: &[Choice], otherwise: Word) -> Result<Tree, Memory>
-    ensures { IfOk result (λ to. view to ≡ pick var choices.now otherwise.bits) }
+fn copy_pick(
+    alloc: Global,
+    place: VariablePlace,
+    choices: &[Choice],
+    otherwise: Word,
+) -> Result<Tree, Memory>
+    ensures { IfOk result (λ to. view to ≡ pick place.0 choices.now otherwise.bits) }
 {
     let choices = copy_choices(alloc, choices)?;
     Ok(Tree::Pick {
-        var,
+        var: place.0,
         choices,
         otherwise,
     })

@@ -13,7 +13,7 @@ ghost use Rattle.av_flat.specs.declared.flat.Kind.TheVariants as kind;
 use crate::choices::choice_before;
 use av_affine::Map;
 use av_base::{List, Memory, Name, Op, Width, Word};
-use av_flat::{Kind, Piece, Tree, Var};
+use av_flat::{Kind, Piece, Tree, Var, VariablePlace};
 use av_poly::{Poly, copy_set};
 use av_tree::Sign;
 use itoa::Buffer;
@@ -46,7 +46,7 @@ fn own_read(
     alloc: Global,
     map: &Map,
     domain: &Poly,
-    place: u32,
+    place: VariablePlace,
     otherwise: Word,
 ) -> Result<Tree, Memory>
     requires projection { IsProjection map.now }
@@ -54,12 +54,12 @@ fn own_read(
     requires dimension { domain.now.dim ≡ map.now.from }
     requires rows { All IsWithinLimits domain.now.rows }
     ensures { IfOk result (λ tree.
-        view tree ≡ pick place (choice_before map.now domain.now ∷ []) otherwise.bits) }
+        view tree ≡ pick place.0 (choice_before map.now domain.now ∷ []) otherwise.bits) }
 {
     let mut choices = List::new(alloc);
     choices.push(choice_before(alloc, map, domain)?)?;
     Ok(Tree::Pick {
-        var: place,
+        var: place.0,
         choices,
         otherwise,
     })
@@ -81,7 +81,7 @@ fn folded(
     op: Op,
     map: &Map,
     domain: &Poly,
-    place: u32,
+    place: VariablePlace,
     body: Tree,
 ) -> Result<Tree, Memory>
     requires projection { IsProjection map.now }
@@ -89,7 +89,7 @@ fn folded(
     requires dimension { domain.now.dim ≡ map.now.from }
     requires rows { All IsWithinLimits domain.now.rows }
     ensures { IfOk result (λ tree.
-        view tree ≡ folded_tree width.bits place op map.now domain.now (view body)) }
+        view tree ≡ folded_tree width.bits place.0 op map.now domain.now (view body)) }
 {
     let before = own_read(alloc, map, domain, place, Word::identity(op, width))?;
     joined(alloc, op, before, body)
@@ -120,7 +120,7 @@ pub(crate) fn chain(
     op: Op,
     map: &Map,
     domain: Poly,
-    place: u32,
+    place: VariablePlace,
     body: Tree,
 ) -> Result<Var, Memory>
     requires projection { IsProjection map.now }
@@ -133,7 +133,7 @@ pub(crate) fn chain(
           kind = kind.Partial;
           width = width.bits;
           domain = domain;
-          pieces = folded_piece width.bits place op map.now domain (view body) ∷ [];
+          pieces = folded_piece width.bits place.0 op map.now domain (view body) ∷ [];
         }) }
 {
     let tree = folded(alloc, width, op, map, &domain, place, body)?;
@@ -148,12 +148,17 @@ pub(crate) fn chain(
 }
 
 /// The name of the chain at a place, where the first one of the equation has the place `first`.
-pub(crate) fn name_at(alloc: Global, name: &Name, first: u32, place: u32) -> Result<Name, Memory>
-    requires order { first ≤ place }
-    requires small { place < 2 ^ 32 - 1 }
-    ensures { IfOk result (λ made. made ≡ chain_name name.now first place) }
+pub(crate) fn name_at(
+    alloc: Global,
+    name: &Name,
+    first: VariablePlace,
+    place: VariablePlace,
+) -> Result<Name, Memory>
+    requires order { first.0 ≤ place.0 }
+    requires small { place.0 < 2 ^ 32 - 1 }
+    ensures { IfOk result (λ made. made ≡ chain_name name.now first.0 place.0) }
 {
-    chain_name(alloc, name, place - first + 1)
+    chain_name(alloc, name, place.0 - first.0 + 1)
 }
 
 /// What stands in the place of a chain until its body is made.

@@ -12,7 +12,7 @@ ghost use Rattle.av_stream.specs.Periods.{HasPeriod};
 ghost use Rattle.av_stream.specs.inner.Standing.{IsUsedIn, HasSpan};
 
 use crate::standing::{matrix_of, stands};
-use av_flat::{Timed, variable_of};
+use av_flat::{Node, Timed, variable_of};
 use av_space::{Cell, Cells};
 
 // The number of cycles from the first computation of a cell to the last one, both included.
@@ -23,9 +23,9 @@ fn span(timed: &Timed, cycles: u32, cell: &Cell) -> u32
     requires few { cycles ≤ 4096 }
     ensures { HasSpan timed.now cell.now result }
 {
-    let node = cell.node as usize;
+    let node = Node(cell.node as usize);
     let var = variable_of(&timed.flat, node);
-    let time = &timed.times.as_slice()[node];
+    let time = &timed.times.as_slice()[node.0];
     let matrix = matrix_of(time);
     let mut first = 0;
     'from_start: while !stands(var, time, &matrix, &cell.at, first) {

@@ -7,4 +7,4 @@ use Rattle.av_data.proofs.data_lines.variable_at.Goals as goal
 pub returns : goal.returns
 returns c =
     let vars = c.args.vars.now in
-    slice_get-map view_variable vars c.args.place ∙ ap (option_map view_variable) (slice_get_read vars (length vars) c.args.place c.index-vars-place.result refl c.requires c.index-vars-place.is)
+    slice_get-map view_variable vars c.args.place.0 ∙ ap (option_map view_variable) (slice_get_read vars (length vars) c.args.place.0 c.index-vars-place.result refl c.requires c.index-vars-place.is)

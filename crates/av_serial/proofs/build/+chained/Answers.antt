@@ -24,7 +24,7 @@ chained-boxed-requires t c =
     let all = subst Ready c.in-Binary.is c.requires.ready in (
       left_falls t c.args.tree.now c.deref.result.now c.decreases c.in-Binary.sign c.in-Binary.left c.in-Binary.right c.in-Binary.is c.deref.ensures,
       (
-        subst Ready (sym c.deref.ensures) (ready_left c.args.name.now e.first e.width.bits e.base c.in-Binary.sign (view c.in-Binary.left.value) (view c.in-Binary.right.value) (length c.args.chains.now) all),
+        subst Ready (sym c.deref.ensures) (ready_left c.args.name.now e.first.0 e.width.bits e.base.0 c.in-Binary.sign (view c.in-Binary.left.value) (view c.in-Binary.right.value) (length c.args.chains.now) all),
         (c.requires.base, c.requires.first),
       ),
     )
@@ -40,8 +40,8 @@ chained-boxed-requires-in-Binary t c =
       right_falls t c.args.tree.now c.deref-in-Binary.result.now c.decreases c.in-Binary.sign c.in-Binary.left c.in-Binary.right c.in-Binary.is c.deref-in-Binary.ensures,
       (
         subst (λ (u : TreeMade). HasPremises name (length c.boxed.new.chains) (view u)) (sym c.deref-in-Binary.ensures)
-            (ready_right name e.first e.width.bits e.base c.in-Binary.sign l (view c.in-Binary.right.value) a c.args.chains.now c.boxed.new.chains all made),
-        (c.requires.base, made_grows name e.first e.width.bits e.base c.args.chains.now c.boxed.new.chains l a made c.requires.first),
+            (ready_right name e.first.0 e.width.bits e.base.0 c.in-Binary.sign l (view c.in-Binary.right.value) a c.args.chains.now c.boxed.new.chains all made),
+        (c.requires.base, made_grows name e.first.0 e.width.bits e.base.0 c.args.chains.now c.boxed.new.chains l a made c.requires.first),
       ),
     )
 
@@ -53,7 +53,7 @@ chained-boxed-requires-in-Choose t c =
       first_falls t c.args.tree.now c.deref-in-Choose.result.now c.decreases c.in-Choose.compare c.in-Choose.left c.in-Choose.right c.in-Choose.yes c.in-Choose.no c.in-Choose.is c.deref-in-Choose.ensures,
       (
         subst (λ (u : TreeMade). HasPremises name (length c.args.chains.now) (view u)) (sym c.deref-in-Choose.ensures)
-            (ready_first name e.first e.width.bits e.base c.in-Choose.compare (view c.in-Choose.left.value) (view c.in-Choose.right.value) (view c.in-Choose.yes.value) (view c.in-Choose.no.value)
+            (ready_first name e.first.0 e.width.bits e.base.0 c.in-Choose.compare (view c.in-Choose.left.value) (view c.in-Choose.right.value) (view c.in-Choose.yes.value) (view c.in-Choose.no.value)
             (length c.args.chains.now) all),
         (c.requires.base, c.requires.first),
       ),
@@ -65,11 +65,11 @@ chained-boxed-requires-in-Choose-2 t c =
     let name = c.args.name.now in
     let all = subst (λ (u : TreeMade). HasPremises name (length c.args.chains.now) (view u)) c.in-Choose.is c.requires.ready in
     let made1 = rw c.deref-in-Choose.ensures at c.in_ok-left-in-Choose.ensures in
-    let grown1 = made_grows name e.first e.width.bits e.base c.args.chains.now c.boxed-in-Choose.new.chains (view c.in-Choose.left.value) (view c.in_ok-left-in-Choose.left.value) made1 c.requires.first in (
+    let grown1 = made_grows name e.first.0 e.width.bits e.base.0 c.args.chains.now c.boxed-in-Choose.new.chains (view c.in-Choose.left.value) (view c.in_ok-left-in-Choose.left.value) made1 c.requires.first in (
       second_falls t c.args.tree.now c.deref-in-Choose-2.result.now c.decreases c.in-Choose.compare c.in-Choose.left c.in-Choose.right c.in-Choose.yes c.in-Choose.no c.in-Choose.is c.deref-in-Choose-2.ensures,
       (
         subst (λ (u : TreeMade). HasPremises name (length c.boxed-in-Choose.new.chains) (view u)) (sym c.deref-in-Choose-2.ensures)
-            (ready_second name e.first e.width.bits e.base c.in-Choose.compare (view c.in-Choose.left.value) (view c.in-Choose.right.value) (view c.in-Choose.yes.value) (view c.in-Choose.no.value)
+            (ready_second name e.first.0 e.width.bits e.base.0 c.in-Choose.compare (view c.in-Choose.left.value) (view c.in-Choose.right.value) (view c.in-Choose.yes.value) (view c.in-Choose.no.value)
             (view c.in_ok-left-in-Choose.left.value) c.args.chains.now c.boxed-in-Choose.new.chains all made1),
         (c.requires.base, grown1),
       ),
@@ -82,12 +82,12 @@ chained-boxed-requires-in-Choose-3 t c =
     let all = subst (λ (u : TreeMade). HasPremises name (length c.args.chains.now) (view u)) c.in-Choose.is c.requires.ready in
     let made1 = rw c.deref-in-Choose.ensures at c.in_ok-left-in-Choose.ensures in
     let made2 = rw c.deref-in-Choose-2.ensures at c.in_ok-right-in-Choose.ensures in
-    let grown1 = made_grows name e.first e.width.bits e.base c.args.chains.now c.boxed-in-Choose.new.chains (view c.in-Choose.left.value) (view c.in_ok-left-in-Choose.left.value) made1 c.requires.first in
-    let grown2 = made_grows name e.first e.width.bits e.base c.boxed-in-Choose.new.chains c.boxed-in-Choose-2.new.chains (view c.in-Choose.right.value) (view c.in_ok-right-in-Choose.right.value) made2 grown1 in (
+    let grown1 = made_grows name e.first.0 e.width.bits e.base.0 c.args.chains.now c.boxed-in-Choose.new.chains (view c.in-Choose.left.value) (view c.in_ok-left-in-Choose.left.value) made1 c.requires.first in
+    let grown2 = made_grows name e.first.0 e.width.bits e.base.0 c.boxed-in-Choose.new.chains c.boxed-in-Choose-2.new.chains (view c.in-Choose.right.value) (view c.in_ok-right-in-Choose.right.value) made2 grown1 in (
       third_falls t c.args.tree.now c.deref-in-Choose-3.result.now c.decreases c.in-Choose.compare c.in-Choose.left c.in-Choose.right c.in-Choose.yes c.in-Choose.no c.in-Choose.is c.deref-in-Choose-3.ensures,
       (
         subst (λ (u : TreeMade). HasPremises name (length c.boxed-in-Choose-2.new.chains) (view u)) (sym c.deref-in-Choose-3.ensures)
-            (ready_third name e.first e.width.bits e.base c.in-Choose.compare (view c.in-Choose.left.value) (view c.in-Choose.right.value) (view c.in-Choose.yes.value) (view c.in-Choose.no.value)
+            (ready_third name e.first.0 e.width.bits e.base.0 c.in-Choose.compare (view c.in-Choose.left.value) (view c.in-Choose.right.value) (view c.in-Choose.yes.value) (view c.in-Choose.no.value)
             (view c.in_ok-left-in-Choose.left.value) (view c.in_ok-right-in-Choose.right.value) c.args.chains.now c.boxed-in-Choose.new.chains c.boxed-in-Choose-2.new.chains all made1 made2),
         (c.requires.base, grown2),
       ),
@@ -101,13 +101,13 @@ chained-boxed-requires-in-Choose-4 t c =
     let made1 = rw c.deref-in-Choose.ensures at c.in_ok-left-in-Choose.ensures in
     let made2 = rw c.deref-in-Choose-2.ensures at c.in_ok-right-in-Choose.ensures in
     let made3 = rw c.deref-in-Choose-3.ensures at c.in_ok-yes-in-Choose.ensures in
-    let grown1 = made_grows name e.first e.width.bits e.base c.args.chains.now c.boxed-in-Choose.new.chains (view c.in-Choose.left.value) (view c.in_ok-left-in-Choose.left.value) made1 c.requires.first in
-    let grown2 = made_grows name e.first e.width.bits e.base c.boxed-in-Choose.new.chains c.boxed-in-Choose-2.new.chains (view c.in-Choose.right.value) (view c.in_ok-right-in-Choose.right.value) made2 grown1 in
-    let grown3 = made_grows name e.first e.width.bits e.base c.boxed-in-Choose-2.new.chains c.boxed-in-Choose-3.new.chains (view c.in-Choose.yes.value) (view c.in_ok-yes-in-Choose.yes.value) made3 grown2 in (
+    let grown1 = made_grows name e.first.0 e.width.bits e.base.0 c.args.chains.now c.boxed-in-Choose.new.chains (view c.in-Choose.left.value) (view c.in_ok-left-in-Choose.left.value) made1 c.requires.first in
+    let grown2 = made_grows name e.first.0 e.width.bits e.base.0 c.boxed-in-Choose.new.chains c.boxed-in-Choose-2.new.chains (view c.in-Choose.right.value) (view c.in_ok-right-in-Choose.right.value) made2 grown1 in
+    let grown3 = made_grows name e.first.0 e.width.bits e.base.0 c.boxed-in-Choose-2.new.chains c.boxed-in-Choose-3.new.chains (view c.in-Choose.yes.value) (view c.in_ok-yes-in-Choose.yes.value) made3 grown2 in (
       fourth_falls t c.args.tree.now c.deref-in-Choose-4.result.now c.decreases c.in-Choose.compare c.in-Choose.left c.in-Choose.right c.in-Choose.yes c.in-Choose.no c.in-Choose.is c.deref-in-Choose-4.ensures,
       (
         subst (λ (u : TreeMade). HasPremises name (length c.boxed-in-Choose-3.new.chains) (view u)) (sym c.deref-in-Choose-4.ensures)
-            (ready_fourth name e.first e.width.bits e.base c.in-Choose.compare (view c.in-Choose.left.value) (view c.in-Choose.right.value) (view c.in-Choose.yes.value) (view c.in-Choose.no.value)
+            (ready_fourth name e.first.0 e.width.bits e.base.0 c.in-Choose.compare (view c.in-Choose.left.value) (view c.in-Choose.right.value) (view c.in-Choose.yes.value) (view c.in-Choose.no.value)
             (view c.in_ok-left-in-Choose.left.value) (view c.in_ok-right-in-Choose.right.value) (view c.in_ok-yes-in-Choose.yes.value) c.args.chains.now c.boxed-in-Choose.new.chains c.boxed-in-Choose-2.new.chains c.boxed-in-Choose-3.new.chains all made1 made2 made3),
         (c.requires.base, grown3),
       ),
@@ -134,14 +134,14 @@ pub chained-returns-in_ok-right-in-Binary : goal.chained-returns-in_ok-right-in-
 chained-returns-in_ok-right-in-Binary t c =
     let e = c.args.equation in
     rw (c.in-Binary.is, c.binary.ensures)
-    (made_two c.args.name.now e.first e.width.bits e.base c.in-Binary.sign (view c.in-Binary.left.value) (view c.in-Binary.right.value) (view c.in_ok-left-in-Binary.left.value) (view c.in_ok-right-in-Binary.right.value)
+    (made_two c.args.name.now e.first.0 e.width.bits e.base.0 c.in-Binary.sign (view c.in-Binary.left.value) (view c.in-Binary.right.value) (view c.in_ok-left-in-Binary.left.value) (view c.in_ok-right-in-Binary.right.value)
     c.args.chains.now c.boxed.new.chains c.boxed-in-Binary.new.chains (rw c.deref.ensures at c.in_ok-left-in-Binary.ensures) (rw c.deref-in-Binary.ensures at c.in_ok-right-in-Binary.ensures))
 
 pub chained-returns-in_ok-no-in-Choose : goal.chained-returns-in_ok-no-in-Choose
 chained-returns-in_ok-no-in-Choose t c =
     let e = c.args.equation in
     rw (c.in-Choose.is, c.choice.ensures)
-    (made_four c.args.name.now e.first e.width.bits e.base c.in-Choose.compare (view c.in-Choose.left.value) (view c.in-Choose.right.value) (view c.in-Choose.yes.value) (view c.in-Choose.no.value)
+    (made_four c.args.name.now e.first.0 e.width.bits e.base.0 c.in-Choose.compare (view c.in-Choose.left.value) (view c.in-Choose.right.value) (view c.in-Choose.yes.value) (view c.in-Choose.no.value)
     (view c.in_ok-left-in-Choose.left.value) (view c.in_ok-right-in-Choose.right.value) (view c.in_ok-yes-in-Choose.yes.value) (view c.in_ok-no-in-Choose.no.value)
     c.args.chains.now c.boxed-in-Choose.new.chains c.boxed-in-Choose-2.new.chains c.boxed-in-Choose-3.new.chains c.boxed-in-Choose-4.new.chains
     (rw c.deref-in-Choose.ensures at c.in_ok-left-in-Choose.ensures) (rw c.deref-in-Choose-2.ensures at c.in_ok-right-in-Choose.ensures)
@@ -151,12 +151,12 @@ pub chained-returns-in-None : goal.chained-returns-in-None
 chained-returns-in-None t c =
     let e = c.args.equation in
     let none = subst (λ (o : Option Set). IsDomainOf c.in-Reduce.map c.in-Reduce.set o) c.in-None.is c.in_ok-domain-in-Reduce.ensures in
-    rw c.in-Reduce.is (made_empty c.args.name.now e.first e.width.bits e.base c.in-Reduce.op c.in-Reduce.map (view c.in-Reduce.body.value) c.in-Reduce.set c.identity.result.bits c.args.chains.now none c.identity.ensures)
+    rw c.in-Reduce.is (made_empty c.args.name.now e.first.0 e.width.bits e.base.0 c.in-Reduce.op c.in-Reduce.map (view c.in-Reduce.body.value) c.in-Reduce.set c.identity.result.bits c.args.chains.now none c.identity.ensures)
 
 pub reduced-placed-requires-clause-within : goal.reduced-placed-requires-clause-within
 reduced-placed-requires-clause-within t c =
     let e = c.args.equation in
-    let w = made_within c.args.name.now e.first e.width.bits e.base c.args.chains.now c.push.new.self c.chained.new.chains c.in_ok-placeholder.field-0 (view c.args.body.now) (view c.in_ok-body.body) c.in_ok-push.ensures.ok c.in_ok-body.ensures in
+    let w = made_within c.args.name.now e.first.0 e.width.bits e.base.0 c.args.chains.now c.push.new.self c.chained.new.chains c.in_ok-placeholder.field-0 (view c.args.body.now) (view c.in_ok-body.body) c.in_ok-push.ensures.ok c.in_ok-body.ensures in
     subst (λ (xs : List Var). length xs < length c.chained.new.chains) (sym c.as_slice-index.ensures) w
 
 pub reduced-returns : goal.reduced-returns
@@ -165,8 +165,8 @@ reduced-returns t c =
     let index = length c.as_slice-index.result.now in
     if_ok c.placed.result c.placed.ensures
     (λ made p set d.
-    subst (λ (u : Tree). AreMade c.args.name.now e.first e.width.bits e.base c.args.chains.now c.placed.new.chains (reduction c.args.reduction.op c.args.reduction.map.now (view c.args.body.now) set) u) (sym p.reads)
-    (made_reduction c.args.name.now e.first e.width.bits e.base c.args.reduction.op c.args.reduction.map.now (view c.args.body.now) (view c.in_ok-body.body) set c.args.reduction.domain (choices_of c.args.reduction.map.now c.args.reduction.domain.rows) (identity e.width.bits c.args.reduction.op) (e.base + index) index
+    subst (λ (u : Tree). AreMade c.args.name.now e.first.0 e.width.bits e.base.0 c.args.chains.now c.placed.new.chains (reduction c.args.reduction.op c.args.reduction.map.now (view c.args.body.now) set) u) (sym p.reads)
+    (made_reduction c.args.name.now e.first.0 e.width.bits e.base.0 c.args.reduction.op c.args.reduction.map.now (view c.args.body.now) (view c.in_ok-body.body) set c.args.reduction.domain (choices_of c.args.reduction.map.now c.args.reduction.domain.rows) (identity e.width.bits c.args.reduction.op) (e.base.0 + index) index
     c.args.chains.now c.push.new.self c.chained.new.chains c.placed.new.chains c.in_ok-placeholder.field-0 p.own d (ap (λ (xs : List Var). length xs) c.as_slice-index.ensures) refl c.in_ok-push.ensures.ok c.in_ok-body.ensures p.is p.chain refl refl))
 
 pub chained-returns-in-Some : goal.chained-returns-in-Some
@@ -175,5 +175,5 @@ chained-returns-in-Some t c =
     let d = subst (λ (o : Option Set). IsDomainOf c.in-Reduce.map c.in-Reduce.set o) c.in-Some.is c.in_ok-domain-in-Reduce.ensures in
     if_ok c.reduced.result c.reduced.ensures
     (λ made r.
-    subst (λ (u : Tree). AreMade c.args.name.now e.first e.width.bits e.base c.args.chains.now c.reduced.new.chains u (view made))
+    subst (λ (u : Tree). AreMade c.args.name.now e.first.0 e.width.bits e.base.0 c.args.chains.now c.reduced.new.chains u (view made))
     (ap (λ (b : TreeMade). reduction c.in-Reduce.op c.in-Reduce.map (view b) c.in-Reduce.set) c.deref-in-Some.ensures ∙ sym (ap view c.in-Reduce.is)) (r c.in-Reduce.set d))
