@@ -182,7 +182,7 @@ pub(crate) fn node_taps<'a>(
 // The cell with this number, as one that reads.
 fn consumer_at<'a>(scheduled: &ScheduledSystem<'a>, number: CellNumber) -> Consumer<'a>
     requires { number.0 < length (cells_of scheduled.now) }
-    ensures number { result.number ≡ number }
+    ensures number { result.number.0 ≡ number.0 }
     ensures consumer { IsReader scheduled.now result }
 {
     let node = Node(scheduled.cells()[number.0 as usize].node as usize);

@@ -32,12 +32,6 @@ pipeline_modes-requires-clause-helper c =
     c.as_slice-2.result.now c.as_slice-2.ensures c.index-as_slice-helper.result c.index-as_slice-helper.is at c.in_ok-spot.ensures in
     (planned c.args.self.now c.requires.blueprint c.args.cell.0 c.args.helper c.requires.helper at is_at).on
 
-pub overflow_cast-result : goal.overflow_cast-result
-overflow_cast-result c =
-    let low = cell_there c.args.self.now c.requires.blueprint c.args.cell.0 c.args.helper c.requires.helper in
-    let few = c.requires.blueprint.array.layout.few_cells in
-    search (rules, low, few)
-
 pub overflow_add-result : goal.overflow_add-result
 overflow_add-result c =
     let at = c.in_ok-spot.spot in

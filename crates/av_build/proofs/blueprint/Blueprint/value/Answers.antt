@@ -63,12 +63,6 @@ loop-number-init c = subst (AreModesTo c.args.self.now c.args.counter c.args.cel
 pub loop-number-preserved : goal.loop-number-preserved
 loop-number-preserved c = mode_more c.args.self.now c.args.counter c.args.cell.0 c.loop-number.number c.loop-number.modes c.push.new.self c.in_ok-value_mode.field-0 c.loop-number.invariant c.in_ok-value_mode.ensures c.in_ok-push.ensures.ok
 
-pub overflow_cast-result : goal.overflow_cast-result
-overflow_cast-result c =
-    let few = c.requires.blueprint.array.layout.few_cells in
-    let cell = c.requires.cell in
-    search (rules, few, cell)
-
 pub returns : goal.returns
 returns c =
     let b = c.args.self.now in

@@ -13,11 +13,6 @@ use Rattle.av_space.proofs.array.Array.port.Goals as goal
 
 pub overflow_cast-port : goal.overflow_cast-port
 overflow_cast-port c =
-    let l = in_range (cells_of c.args.self.now) c.args.spot.now.cell.0 c.requires.spot.cell c.requires.spot.is_cell in
-    omega (arith, l, c.requires.array.layout.few_cells)
-
-pub overflow_cast-port-2 : goal.overflow_cast-port-2
-overflow_cast-port-2 c =
     let at = c.args.spot.now in
     let l = in_range (view_variable at.var.now).pieces at.number (view_piece at.piece.now) c.requires.spot.is_piece in
     let size = length-map at.var.now.pieces view_piece in
