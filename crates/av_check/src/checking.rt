@@ -43,7 +43,7 @@ fn name_place(alloc: Global, vars: &[Var], blame: Blame) -> Result<Option<(Name,
     ensures { IfOk result (λ outside.
         outside ≡ named (map signature (map view_variable vars.now)) (Some blame)) }
 {
-    let place = blame.var as usize;
+    let place = blame.var.0 as usize;
     if place >= vars.len() {
         return Ok(None);
     }

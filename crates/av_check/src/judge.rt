@@ -12,18 +12,18 @@ use crate::images::{image_under, point_under};
 use crate::verdict::{Blame, Verdict, both, either};
 use av_affine::Map;
 use av_base::{Memory, Point};
-use av_flat::{Piece, Tree, Var};
+use av_flat::{Piece, Tree, Var, VariablePlace};
 use av_normal::prepend_map;
 use std::alloc::Global;
 
 // What a reference to a variable has that reads this point.
-fn judge_reference(vars: &[Var], var: u32, point: Point) -> Verdict
-    requires fits { dimension_of (slice_get (map signature (map view_variable vars.now)) var)
+fn judge_reference(vars: &[Var], var: VariablePlace, point: Point) -> Verdict
+    requires fits { dimension_of (slice_get (map signature (map view_variable vars.now)) var.0)
         ≡ Some (length point) }
     requires small { AtMost (2 ^ 25) point }
-    ensures { IsReading (map signature (map view_variable vars.now)) var point result }
+    ensures { IsReading (map signature (map view_variable vars.now)) var.0 point result }
 {
-    if vars[var as usize].domain.contains(&point) {
+    if vars[var.0 as usize].domain.contains(&point) {
         Verdict::Counted
     } else {
         Verdict::Missing(Some(Blame { var, point }))
@@ -48,7 +48,7 @@ fn judge(
     match tree {
         Tree::Ref { var, map } => {
             let point = image_under(map, under, z);
-            Ok(judge_reference(vars, *var, point))
+            Ok(judge_reference(vars, VariablePlace(*var), point))
         }
         Tree::Const(_) | Tree::Reduce { .. } | Tree::Pick { .. } => Ok(Verdict::Counted),
         Tree::Binary { left, right, .. } => {

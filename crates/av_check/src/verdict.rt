@@ -5,12 +5,13 @@ ghost use Rattle.av_check.specs.Blame.{Blamed, where_none, or_else};
 ghost use Rattle.av_check.specs.inner.Verdicts.{IsOf};
 
 use av_base::Point;
+use av_flat::VariablePlace;
 use std::marker::Model;
 
 // A reference to a variable reads a point that is not declared.
 #[derive(Debug, Drop)]
 pub(crate) struct Blame {
-    pub(crate) var: u32,
+    pub(crate) var: VariablePlace,
     pub(crate) point: Point,
 }
 
@@ -19,7 +20,7 @@ impl Model for Blame {
 
     ghost Value = { Blamed };
 
-    ghost view = { λ b. record { var = b.var; point = b.point } };
+    ghost view = { λ b. record { var = b.var.0; point = b.point } };
 }
 
 // Whether a tree has a word at a point, and whom it is blamed on that it has none.

@@ -18,7 +18,7 @@ use crate::distribute::{append_under, composed_map};
 use crate::piece::{append_read, four_numbers, two_numbers};
 use av_affine::{Form, Map};
 use av_base::{List, Memory};
-use av_flat::{Tree, Var};
+use av_flat::{Tree, Var, VariablePlace};
 use av_poly::{Poly, copy_rows};
 use std::alloc::Global;
 
@@ -80,7 +80,7 @@ fn rows_of_part(
     match tree {
         Tree::Ref { var, map } => {
             let map = composed_map(map, under);
-            append_read(alloc, vars, *var, &map, rows)?;
+            append_read(alloc, vars, VariablePlace(*var), &map, rows)?;
             Ok(false)
         }
         Tree::Const(_) => Ok(false),

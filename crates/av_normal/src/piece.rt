@@ -18,7 +18,7 @@ use crate::count::piece_count;
 use crate::distribute::{append_before, append_under, composed_map};
 use av_affine::{Form, Map};
 use av_base::{List, Memory, Op};
-use av_flat::{Tree, Var, copy_map, copy_tree};
+use av_flat::{Tree, Var, VariablePlace, copy_map, copy_tree};
 use av_poly::{Poly, copy_rows};
 use std::alloc::Global;
 
@@ -81,19 +81,19 @@ pub(crate) fn four_numbers(
 pub(crate) fn append_read(
     alloc: Global,
     vars: &[Var],
-    place: u32,
+    place: VariablePlace,
     map: &Map,
     rows: &mut List<Form>,
 ) -> Result<(), Memory>
-    requires fits { dimension_of (slice_get (signatures_of vars.now) place)
+    requires fits { dimension_of (slice_get (signatures_of vars.now) place.0)
         ≡ Some (length map.now.rows) }
-    requires rows { All IsWithinLimits (rows_of (slice_get (signatures_of vars.now) place)) }
+    requires rows { All IsWithinLimits (rows_of (slice_get (signatures_of vars.now) place.0)) }
     requires map { All IsWithinLimits map.now.rows }
     ensures rows { OnOk result (rows.new
-        ≡ rows.old ++ rows_before map.now (rows_of (slice_get (signatures_of vars.now) place))) }
+        ≡ rows.old ++ rows_before map.now (rows_of (slice_get (signatures_of vars.now) place.0))) }
     ensures small { OnOk result (All IsSmall rows.old → All IsSmall rows.new) }
 {
-    let read = &vars[place as usize];
+    let read = &vars[place.0 as usize];
     append_before(alloc, &read.domain, map, rows)
 }
 
@@ -129,7 +129,7 @@ fn part_of(
     match tree {
         Tree::Ref { var, map } => {
             let map = composed_map(map, under);
-            append_read(alloc, vars, *var, &map, rows)?;
+            append_read(alloc, vars, VariablePlace(*var), &map, rows)?;
             Ok(Tree::Ref { var: *var, map })
         }
         Tree::Const(word) => Ok(Tree::Const(*word)),

@@ -14,7 +14,7 @@ use crate::distribute::{append_under, composed_map};
 use crate::piece::append_read;
 use av_affine::{Form, Map};
 use av_base::{List, Memory, Op, Word};
-use av_flat::{Tree, Var, copy_map};
+use av_flat::{Tree, Var, VariablePlace, copy_map};
 use av_poly::{Poly, append_rows};
 use av_tree::Sign;
 use std::alloc::Global;
@@ -125,7 +125,7 @@ fn sketch_of(
         Tree::Ref { var, map } => {
             let map = composed_map(map, under);
             let mut rows = List::new(alloc);
-            append_read(alloc, vars, *var, &map, &mut rows)?;
+            append_read(alloc, vars, VariablePlace(*var), &map, &mut rows)?;
             Ok(Sketch::One(rows))
         }
         Tree::Const(_) => Ok(Sketch::One(List::new(alloc))),

@@ -7,20 +7,20 @@ use Rattle.av_check.proofs.judge.judge_reference.Goals as goal
 
 pub contains-requires-clause-fits : goal.contains-requires-clause-fits
 contains-requires-clause-fits c =
-    let l = place_within c.args.vars.now c.args.var (length c.args.point) c.requires.fits in
-    dimension_at c.args.vars.now c.args.var c.index-vars-var.result (length c.args.point) l c.requires.fits
+    let l = place_within c.args.vars.now c.args.var.0 (length c.args.point) c.requires.fits in
+    dimension_at c.args.vars.now c.args.var.0 c.index-vars-var.result (length c.args.point) l c.requires.fits
 
 pub returns-then-contains : goal.returns-then-contains
 returns-then-contains c =
-    let l = place_within c.args.vars.now c.args.var (length c.args.point) c.requires.fits in
-    let e = declared_at c.args.vars.now c.args.var c.index-vars-var.result c.args.point l in
-    reads (map signature (map view_variable c.args.vars.now)) c.args.var c.args.point (e ∙ has_true _ c.args.point c.contains.result c.contains.ensures c.if-contains.true)
+    let l = place_within c.args.vars.now c.args.var.0 (length c.args.point) c.requires.fits in
+    let e = declared_at c.args.vars.now c.args.var.0 c.index-vars-var.result c.args.point l in
+    reads (map signature (map view_variable c.args.vars.now)) c.args.var.0 c.args.point (e ∙ has_true _ c.args.point c.contains.result c.contains.ensures c.if-contains.true)
 
 pub returns-else-contains : goal.returns-else-contains
 returns-else-contains c =
-    let l = place_within c.args.vars.now c.args.var (length c.args.point) c.requires.fits in
-    let e = declared_at c.args.vars.now c.args.var c.index-vars-var.result c.args.point l in
-    misses (map signature (map view_variable c.args.vars.now)) c.args.var c.args.point _ (e ∙ has_false _ c.args.point c.contains.result c.contains.ensures c.if-contains.false) refl
+    let l = place_within c.args.vars.now c.args.var.0 (length c.args.point) c.requires.fits in
+    let e = declared_at c.args.vars.now c.args.var.0 c.index-vars-var.result c.args.point l in
+    misses (map signature (map view_variable c.args.vars.now)) c.args.var.0 c.args.point _ (e ∙ has_false _ c.args.point c.contains.result c.contains.ensures c.if-contains.false) refl
 
 pub bounds-vars-var : goal.bounds-vars-var
-bounds-vars-var c = place_within c.args.vars.now c.args.var (length c.args.point) c.requires.fits
+bounds-vars-var c = place_within c.args.vars.now c.args.var.0 (length c.args.point) c.requires.fits
