@@ -11,7 +11,9 @@ ghost use Rattle.av_pipe.specs.inner.Helping.{HasFinePieces};
 
 use crate::site::piece_helpers;
 use av_base::{List, Memory, Point};
-use av_flat::{Flat, Helper, Node, Nodes, Time, Timed, Var, VariablePlace, copy_flat, sign_vectors};
+use av_flat::{
+    Flat, Helper, Node, Nodes, Time, Timed, Var, VariablePlace, copy_flat, sign_vectors,
+};
 use std::alloc::Global;
 
 // Appends the helpers of a variable, where there is a time for the node.
