@@ -5,23 +5,23 @@ use Rattle.av_space.proofs.stretch.site_links.Goals.{then-continues, else-contin
 
 pub loop-reading-init : goal.loop-reading-init
 loop-reading-init c =
-    rw c.begun-last.ensures (begins c.args.at.consumer c.args.at.site c.args.readings.now c.in-Some.rest.now c.in-Some.first.now c.in-Some.ensures.cases.0 c.args.links.now)
+    rw c.begun-last.ensures (begins c.args.at.consumer.0 c.args.at.site c.args.readings.now c.in-Some.rest.now c.in-Some.first.now c.in-Some.ensures.cases.0 c.args.links.now)
 
 pub loop-reading-preserved : goal.loop-reading-preserved
 loop-reading-preserved c = elim c.if-continues.branch [
   | then-continues w ↦
       (rw (w.links-is, w.last-is, w.prolonged-last.ensures)
-      (went_on c.args.at.consumer c.args.at.site c.args.readings.now c.in-Some.rest.now c.in-Some.first.now c.in-Some.ensures.cases.0 c.loop-reading.reading-index _ c.loop-reading-test.true c.requires
+      (went_on c.args.at.consumer.0 c.args.at.site c.args.readings.now c.in-Some.rest.now c.in-Some.first.now c.in-Some.ensures.cases.0 c.loop-reading.reading-index _ c.loop-reading-test.true c.requires
       c.args.links.now c.loop-reading.links c.loop-reading.last c.loop-reading.invariant (c.continues.ensures.0 w.if-continues.true)))
   | else-continues+in_ok-push w ↦
       (rw (w.links-is, w.last-is, w.begun-last-else-continues.ensures, w.in_ok-push.ensures.ok)
-      (went_anew c.args.at.consumer c.args.at.site c.args.readings.now c.in-Some.rest.now c.in-Some.first.now c.in-Some.ensures.cases.0 c.loop-reading.reading-index _ c.loop-reading-test.true c.requires
+      (went_anew c.args.at.consumer.0 c.args.at.site c.args.readings.now c.in-Some.rest.now c.in-Some.first.now c.in-Some.ensures.cases.0 c.loop-reading.reading-index _ c.loop-reading-test.true c.requires
       c.args.links.now c.loop-reading.links c.loop-reading.last c.loop-reading.invariant (λ same. let t = c.continues.ensures.1 same in cc)))
 ]
 
 pub returns : goal.returns
 returns c =
     on_ok_weaker c.push-2.result
-    (concluded c.args.at.consumer c.args.at.site c.args.readings.now c.in-Some.rest.now c.in-Some.first.now c.in-Some.ensures.cases.0 c.loop-reading.reading-index c.loop-reading-test.false
+    (concluded c.args.at.consumer.0 c.args.at.site c.args.readings.now c.in-Some.rest.now c.in-Some.first.now c.in-Some.ensures.cases.0 c.loop-reading.reading-index c.loop-reading-test.false
     c.args.links.now c.loop-reading.links c.push-2.new.self c.loop-reading.last c.loop-reading.invariant)
     c.push-2.ensures.ok
