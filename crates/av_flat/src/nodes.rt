@@ -155,7 +155,8 @@ impl<'a> Nodes<'a> {
     /// The variable of a node.
     pub fn variable(&self, node: Node) -> &'a Var
         requires { node.0 < length (nodes (view_system self.now)) }
-        ensures { slice_get (nodes (view_system self.now)) node.0 ≡ Some (view_variable result.now) }
+        ensures { slice_get (nodes (view_system self.now)) node.0
+            ≡ Some (view_variable result.now) }
     {
         let vars = self.flat.vars.as_slice();
         let place = self.place(node);

@@ -111,8 +111,11 @@ impl Array<'_> {
             spot.now.cell.0 spot.now.node.0 spot.now.piece.now.domain slot.now }
         requires entered { IsReadAt site.now.pipeline
             (view_piece spot.now.piece.now) slot.now.point }
-        ensures { slice_get self.now.cells.now.inputs result ≡ Some
-            (record { cell = spot.now.cell.0; piece = spot.now.number; site = site.now.place.site }) }
+        ensures { slice_get self.now.cells.now.inputs result ≡ Some (record {
+          cell = spot.now.cell.0;
+          piece = spot.now.number;
+          site = site.now.place.site;
+        }) }
     {
         // So few pieces that 32 bits number them.
         let _most = spot.var.pieces.len();
@@ -163,8 +166,9 @@ impl Array<'_> {
         requires slot { IsSlotIn self.now
             spot.now.cell.0 spot.now.node.0 spot.now.piece.now.domain slot.now }
         ensures { MatchOption result (HasPointBefore spot.now slot.now pipeline.now → ⊥) (λ r.
-            HasPointBefore spot.now slot.now pipeline.now × IsLinkedBy self.now spot.now
-            slot.now.cycle (handed_tap (place_of site.now.place) pipeline.now) r.producer.0 r.delay) }
+            HasPointBefore spot.now slot.now pipeline.now
+            × IsLinkedBy self.now spot.now slot.now.cycle
+            (handed_tap (place_of site.now.place) pipeline.now) r.producer.0 r.delay) }
     {
         let tap = TapSite {
             place: same(&site.place),
