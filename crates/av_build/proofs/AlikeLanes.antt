@@ -66,11 +66,11 @@ abbrev pipelines_of : List Site → List (Option Pipeline)
 pipelines_of sites = map (λ (s : Site). s.pipeline) sites
 
 pipelines_are : (w : ArrayMade) (at : SpotMade) (sites : List Site) → AllByRecursion (IsSiteOf w at) sites
-    → pipelines_of sites ≡ map (λ (q : Place). pipeline_by (helpers_of w) at.place q q.tree) (map (λ (s : Site). place_of s.place) sites)
+    → pipelines_of sites ≡ map (λ (q : Place). pipeline_by (helpers_of w) at.place.0 q q.tree) (map (λ (s : Site). place_of s.place) sites)
 pipelines_are w at [] h = refl
 pipelines_are w at (s ∷ sites) h =
     ap (λ (o : Option Pipeline). o ∷ pipelines_of sites) h.0.pipeline
-    ∙ ap (λ (l : List (Option Pipeline)). pipeline_by (helpers_of w) at.place (place_of s.place) (place_of s.place).tree ∷ l) (pipelines_are w at sites h.1)
+    ∙ ap (λ (l : List (Option Pipeline)). pipeline_by (helpers_of w) at.place.0 (place_of s.place) (place_of s.place).tree ∷ l) (pipelines_are w at sites h.1)
 
 site_helpers_same : (k i : ℕ) (xs ys : List Site) → pipelines_of xs ≡ pipelines_of ys → site_helpers k i xs ≡ site_helpers k i ys
 site_helpers_same k i [] [] e = refl
@@ -91,7 +91,7 @@ helpers_same k (xs ∷ ps) (ys ∷ qs) size each =
 
 -- ---- one piece of one node on two cells
 
-module _ (w : ArrayMade) (at of : SpotMade) (s : IsSpot w at) (t : IsSpot w of) (node : at.node ≡ of.node) (number : at.number ≡ of.number) where
+module _ (w : ArrayMade) (at of : SpotMade) (s : IsSpot w at) (t : IsSpot w of) (node : at.node.0 ≡ of.node.0) (number : at.number ≡ of.number) where
   pub variable_same : view_variable at.var.now ≡ view_variable of.var.now
   variable_same = some_is (view_variable at.var.now) (view_variable of.var.now) (sym s.is_variable ∙ ap (slice_get (nodes (system_of w))) node ∙ t.is_variable)
 
@@ -99,7 +99,7 @@ module _ (w : ArrayMade) (at of : SpotMade) (s : IsSpot w at) (t : IsSpot w of) 
   piece_same = some_is (view_piece at.piece.now) (view_piece of.piece.now)
       (sym s.is_piece ∙ ap (λ (v : Variable). slice_get v.pieces at.number) variable_same ∙ ap (slice_get (view_variable of.var.now).pieces) number ∙ t.is_piece)
 
-  place_same : at.place ≡ of.place
+  place_same : at.place.0 ≡ of.place.0
   place_same = s.place ∙ ap (node_place (system_of w)) node ∙ sym t.place
 
   pipelines_same : (xs ys : List Site) → AreSites w at xs → AreSites w of ys → pipelines_of xs ≡ pipelines_of ys
@@ -107,11 +107,11 @@ module _ (w : ArrayMade) (at of : SpotMade) (s : IsSpot w at) (t : IsSpot w of) 
       let by : ℕ → Place → Option Pipeline = λ own q. pipeline_by (helpers_of w) own q q.tree in
       let there : map (λ (s : Site). place_of s.place) xs ≡ map (λ (s : Site). place_of s.place) ys =
       x.places ∙ ap (λ (k : ℕ). places_in k 0 (view_piece at.piece.now).tree) number ∙ ap (λ (q : Piece). places_in of.number 0 q.tree) piece_same ∙ sym y.places in
-      pipelines_are w at xs (recursion_from_All (IsSiteOf w at) xs x.each) ∙ ap (map (by at.place)) there
+      pipelines_are w at xs (recursion_from_All (IsSiteOf w at) xs x.each) ∙ ap (map (by at.place.0)) there
       ∙ ap (λ (own : ℕ). map (by own) (map (λ (s : Site). place_of s.place) ys)) place_same ∙ sym (pipelines_are w of ys (recursion_from_All (IsSiteOf w of) ys y.each))
 
   pipeline_same : (i : ℕ) → pipeline_at (seen w) (spot_of at) i ≡ pipeline_at (seen w) (spot_of of) i
-  pipeline_same i = ap (λ (n : ℕ). helper_at (helpers_of w) (node_place (system_of w) n) at.number i) node ∙ ap (λ (k : ℕ). helper_at (helpers_of w) (node_place (system_of w) of.node) k i) number
+  pipeline_same i = ap (λ (n : ℕ). helper_at (helpers_of w) (node_place (system_of w) n) at.number i) node ∙ ap (λ (k : ℕ). helper_at (helpers_of w) (node_place (system_of w) of.node.0) k i) number
 
 -- ---- alike lanes of helpers
 
@@ -160,10 +160,10 @@ module _ (b : Blueprint) (is : IsBlueprint b) (p q : ℕ) (x y : CellPlan) (is_x
   of_y : ArePieces w q y.pieces
   of_y = is.plans.pieces q y is_y
 
-  on_x : (k : ℕ) (at : SpotMade) → slice_get (spots_on w x.pieces) k ≡ Some at → (at.cell ≡ p) × (0 < length at.slots) × IsSpot w at
+  on_x : (k : ℕ) (at : SpotMade) → slice_get (spots_on w x.pieces) k ≡ Some at → (at.cell.0 ≡ p) × (0 < length at.slots) × IsSpot w at
   on_x k at e = spot_at w is.array p x.pieces of_x k at e
 
-  on_y : (k : ℕ) (at : SpotMade) → slice_get (spots_on w y.pieces) k ≡ Some at → (at.cell ≡ q) × (0 < length at.slots) × IsSpot w at
+  on_y : (k : ℕ) (at : SpotMade) → slice_get (spots_on w y.pieces) k ≡ Some at → (at.cell.0 ≡ q) × (0 < length at.slots) × IsSpot w at
   on_y k at e = spot_at w is.array q y.pieces of_y k at e
 
   pub helpers_are : helpers_on x.pieces ≡ helpers_on y.pieces
@@ -187,15 +187,15 @@ module _ (b : Blueprint) (is : IsBlueprint b) (p q : ℕ) (x y : CellPlan) (is_x
 
   -- ---- the works of one piece
 
-  module _ (count : ℕ → ℕ) (at of : SpotMade) (here : at.cell ≡ p) (there : of.cell ≡ q) (s : IsSpot w at) (t : IsSpot w of) (node : at.node ≡ of.node) (number : at.number ≡ of.number) where
+  module _ (count : ℕ → ℕ) (at of : SpotMade) (here : at.cell.0 ≡ p) (there : of.cell.0 ≡ q) (s : IsSpot w at) (t : IsSpot w of) (node : at.node.0 ≡ of.node.0) (number : at.number ≡ of.number) where
     piece_is : view_piece at.piece.now ≡ view_piece of.piece.now
     piece_is = piece_same w at of s t node number
 
     site_alike : (i : ℕ) (u : Tree) (c d : ProgramSite) → IsPlaceSite (seen w) count lanes x.lanes.first (spot_of at) i u c → IsPlaceSite (seen w) count lanes y.lanes.first (spot_of of) i u d → AreAlikeSites c d
     site_alike i u c d g h =
         let pipeline = pipeline_same w at of s t node number i in
-        let f : ℕ → ℕ = pipe_in lanes at.cell x.lanes.first in
-        let k : ℕ → ℕ = pipe_in lanes of.cell y.lanes.first in
+        let f : ℕ → ℕ = pipe_in lanes at.cell.0 x.lanes.first in
+        let k : ℕ → ℕ = pipe_in lanes of.cell.0 y.lanes.first in
         let pipes : (j : ℕ) → f j ≡ k j = λ j. ap (λ (n : ℕ). pipe_in lanes n x.lanes.first j) here ∙ pipes_are j ∙ sym (ap (λ (n : ℕ). pipe_in lanes n y.lanes.first j) there) in
         record {
           inlet = g.inlet ∙ inlet_same (system_of w) f k pipes (pipeline_at (seen w) (spot_of at) i) u ∙ ap (λ (o : Option Pipeline). inlet_by (system_of w) k o u) pipeline ∙ sym h.inlet;

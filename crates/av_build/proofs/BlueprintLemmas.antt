@@ -17,29 +17,29 @@ use Rattle.av_build.proofs.Appended.{get_right}
 
 pub own_size : (p : ℕ) (pieces : Pieces) → length (own_lanes p pieces) ≡ suc (length (helpers_on pieces))
 own_size p pieces =
-    let a = length-append (map (of_helper p) (helpers_on pieces)) (record { cell = p; helper = None } ∷ []) in
+    let a = length-append (map (of_helper p) (helpers_on pieces)) (record { cell = record { 0 = p }; helper = None } ∷ []) in
     let b = length-map (helpers_on pieces) (of_helper p) in
     omega (arith, a, b)
 
 pub helper_lane_at : (p : ℕ) (pieces : Pieces) (i : ℕ) (h : HelperPlan) → slice_get (helpers_on pieces) i ≡ Some h → slice_get (own_lanes p pieces) i ≡ Some (of_helper p h)
-helper_lane_at p pieces i h is = get_first (map (of_helper p) (helpers_on pieces)) (record { cell = p; helper = None } ∷ []) i (of_helper p h) (get_mapped (of_helper p) (helpers_on pieces) i h is)
+helper_lane_at p pieces i h is = get_first (map (of_helper p) (helpers_on pieces)) (record { cell = record { 0 = p }; helper = None } ∷ []) i (of_helper p h) (get_mapped (of_helper p) (helpers_on pieces) i h is)
 
-pub value_lane_at : (p : ℕ) (pieces : Pieces) → slice_get (own_lanes p pieces) (length (helpers_on pieces)) ≡ Some (record { cell = p; helper = None })
+pub value_lane_at : (p : ℕ) (pieces : Pieces) → slice_get (own_lanes p pieces) (length (helpers_on pieces)) ≡ Some (record { cell = record { 0 = p }; helper = None })
 value_lane_at p pieces =
     let b = length-map (helpers_on pieces) (of_helper p) in
     let e : length (map (of_helper p) (helpers_on pieces)) + 0 ≡ length (helpers_on pieces) = omega (arith, b) in
-    subst (λ (k : ℕ). slice_get (own_lanes p pieces) k ≡ Some (record { cell = p; helper = None })) e (get_right (map (of_helper p) (helpers_on pieces)) (record { cell = p; helper = None } ∷ []) 0 (record { cell = p; helper = None }) refl)
+    subst (λ (k : ℕ). slice_get (own_lanes p pieces) k ≡ Some (record { cell = record { 0 = p }; helper = None })) e (get_right (map (of_helper p) (helpers_on pieces)) (record { cell = record { 0 = p }; helper = None } ∷ []) 0 (record { cell = record { 0 = p }; helper = None }) refl)
 
 -- a lane of a helper, or the last one
 pub own_cases : (p : ℕ) (pieces : Pieces) (i : ℕ) (lane : LanePlan) → slice_get (own_lanes p pieces) i ≡ Some lane
-    → ((h : HelperPlan) × (slice_get (helpers_on pieces) i ≡ Some h) × (of_helper p h ≡ lane)) ⊎ ((i ≡ length (helpers_on pieces)) × (◌≡◌ {A = LanePlan} (record { cell = p; helper = None }) lane))
-own_cases p pieces i lane is = elim (get_cases (map (of_helper p) (helpers_on pieces)) (record { cell = p; helper = None } ∷ []) i lane is) [
+    → ((h : HelperPlan) × (slice_get (helpers_on pieces) i ≡ Some h) × (of_helper p h ≡ lane)) ⊎ ((i ≡ length (helpers_on pieces)) × (◌≡◌ {A = LanePlan} (record { cell = record { 0 = p }; helper = None }) lane))
+own_cases p pieces i lane is = elim (get_cases (map (of_helper p) (helpers_on pieces)) (record { cell = record { 0 = p }; helper = None } ∷ []) i lane is) [
   | inl l ↦ inl (from_map (of_helper p) (helpers_on pieces) i lane l)
   | inr b ↦ inr (last b.0 b.1 b.2)
 ]
   where
-    last : (j : ℕ) → i ≡ length (map (of_helper p) (helpers_on pieces)) + j → slice_get (record { cell = p; helper = None } ∷ []) j ≡ Some lane → (i ≡ length (helpers_on pieces)) × (◌≡◌ {A = LanePlan} (record { cell = p; helper = None }) lane)
-    last zero e f = (let size = length-map (helpers_on pieces) (of_helper p) in omega (arith, e, size), some_is (record { cell = p; helper = None }) lane f)
+    last : (j : ℕ) → i ≡ length (map (of_helper p) (helpers_on pieces)) + j → slice_get (record { cell = record { 0 = p }; helper = None } ∷ []) j ≡ Some lane → (i ≡ length (helpers_on pieces)) × (◌≡◌ {A = LanePlan} (record { cell = record { 0 = p }; helper = None }) lane)
+    last zero e f = (let size = length-map (helpers_on pieces) (of_helper p) in omega (arith, e, size), some_is (record { cell = record { 0 = p }; helper = None }) lane f)
     last (suc j) e f = absurd cc
 
 -- ---- the lanes of all cells

@@ -54,14 +54,14 @@ last_piece k helpers all pieces end before = sym (append-nil helpers) ∙ ap (λ
 -- ---- cells
 
 pub whole_cell : (p : ℕ) (pieces : Pieces) (helpers : List HelperPlan) (old middle new : List LanePlan) (n : ℕ) → helpers ≡ helpers_on pieces → length helpers ≤ n → middle ≡ old ++ map (of_helper p) (take n helpers)
-    → new ≡ middle ++ record { cell = p; helper = None } ∷ [] → (new ≡ old ++ own_lanes p pieces) × (length middle ≡ length old + length (helpers_on pieces))
+    → new ≡ middle ++ record { cell = record { 0 = p }; helper = None } ∷ [] → (new ≡ old ++ own_lanes p pieces) × (length middle ≡ length old + length (helpers_on pieces))
 whole_cell p pieces helpers old middle new n are end first second =
     let all : take n helpers ≡ helpers_on pieces = take_all n helpers end ∙ are in
     let mid : middle ≡ old ++ map (of_helper p) (helpers_on pieces) = first ∙ ap (λ (l : List HelperPlan). old ++ map (of_helper p) l) all in
     let size = ap (λ (l : List LanePlan). length l) mid in
     let sum = length-append old (map (of_helper p) (helpers_on pieces)) in
     let count = length-map (helpers_on pieces) (of_helper p) in (
-      second ∙ ap (λ (l : List LanePlan). l ++ record { cell = p; helper = None } ∷ []) mid ∙ append_assoc old (map (of_helper p) (helpers_on pieces)) (record { cell = p; helper = None } ∷ []),
+      second ∙ ap (λ (l : List LanePlan). l ++ record { cell = record { 0 = p }; helper = None } ∷ []) mid ∙ append_assoc old (map (of_helper p) (helpers_on pieces)) (record { cell = record { 0 = p }; helper = None } ∷ []),
       omega (arith, size, sum, count),
     )
 

@@ -74,9 +74,9 @@ module _ (b : Blueprint) (is : IsBlueprint b) (j : ℕ) (h : Helper) (v : Variab
         let mapped : slice_get (map (λ (s : Site). place_of s.place) own.0) place.0 ≡ Some (record { piece = at.0.number; site = 0 + h.site; tree = reference r.place r.map }) = ap (λ (l : List Place). slice_get l place.0) sites.places ∙ place.1 in
         let site = from_map (λ (s : Site). place_of s.place) own.0 place.0 (record { piece = at.0.number; site = 0 + h.site; tree = reference r.place r.map }) mapped in
         let placed = at_index (IsSiteOf w at.0) own.0 sites.each place.0 site.0 site.1 in
-        let var_is : at.0.place ≡ h.var = spot.place ∙ ap (node_place (system_of w)) (computed_node w p at.0 there.0 spot c (number_at (system_of w) h.var) z computes) ∙ own_place (system_of w) h.var v it.is_variable it.is_node in
+        let var_is : at.0.place.0 ≡ h.var = spot.place ∙ ap (node_place (system_of w)) (computed_node w p at.0 there.0 spot c (number_at (system_of w) h.var) z computes) ∙ own_place (system_of w) h.var v it.is_variable it.is_node in
         let pipeline : site.0.pipeline ≡ Some (record { number = j; direction = h.direction }) =
-        placed.pipeline ∙ ap (λ (q : Place). pipeline_by (helpers_of w) at.0.place q q.tree) site.2 ∙ ap (λ (i : ℕ). helper_at (helpers_of w) at.0.place at.0.number i) number
+        placed.pipeline ∙ ap (λ (q : Place). pipeline_by (helpers_of w) at.0.place.0 q q.tree) site.2 ∙ ap (λ (i : ℕ). helper_at (helpers_of w) at.0.place.0 at.0.number i) number
         ∙ ap (λ (i : ℕ). helper_at (helpers_of w) i at.0.number h.site) var_is ∙ ap (λ (i : ℕ). helper_at (helpers_of w) h.var i h.site) at.2 ∙ it.is_first in
         let found = helper_of_place plan.pieces k.0 own.0 own.1 place.0 site.0 site.1 (record { number = j; direction = h.direction }) pipeline in
         (found.0, record { number = j; piece = k.0; site = place.0 }, found.1, refl)
@@ -90,15 +90,15 @@ module _ (b : Blueprint) (is : IsBlueprint b) (j : ℕ) (h : Helper) (v : Variab
 -- ---- the cell from which a link hands the helper's word on
 
 module _ (b : Blueprint) (is : IsBlueprint b) (at : SpotMade) (spot : IsSpot b.array at) (mine : Site) (placed : IsSiteOf b.array at mine) (h : Pipeline) (pipeline : mine.pipeline ≡ Some h)
-    (t : Slot) (on : IsSlotIn b.array at.cell at.node at.piece.now.domain t) where
+    (t : Slot) (on : IsSlotIn b.array at.cell.0 at.node.0 at.piece.now.domain t) where
   abbrev s : FlatSystem
   s = system_of b.array
 
   abbrev p : Place
   p = place_of mine.place
 
-  moved : IsReference p × (helper_at (helpers_of b.array) at.place p.piece p.site ≡ Some h)
-  moved = by_tree (helpers_of b.array) at.place p p.tree h refl (sym placed.pipeline ∙ pipeline)
+  moved : IsReference p × (helper_at (helpers_of b.array) at.place.0 p.piece p.site ≡ Some h)
+  moved = by_tree (helpers_of b.array) at.place.0 p p.tree h refl (sym placed.pipeline ∙ pipeline)
 
   piece_is : p.piece ≡ at.number
   piece_is = (place_read at.number (view at.piece.now.tree) p placed.is_place).piece_is
@@ -113,8 +113,8 @@ module _ (b : Blueprint) (is : IsBlueprint b) (at : SpotMade) (spot : IsSpot b.a
   helper =
       let whole : slice_get (references (view at.piece.now.tree)) p.site ≡ Some (record { place = moved.0.place; map = moved.0.map_is }) =
       subst (IsPlaceBy (signatures s) (references (view at.piece.now.tree)) p) moved.0.tree (known b.array is.array at spot mine placed) in
-      let found = ap (λ (i : ℕ). helper_at (helpers_of b.array) at.place i p.site) (sym piece_is) ∙ moved.1 in
-      moved_by (seen b.array) (spot_of at) spot.is_piece at.place node_is.variable node_is.node (sym node_is.number) p.site moved.0.place moved.0.map_is h found whole
+      let found = ap (λ (i : ℕ). helper_at (helpers_of b.array) at.place.0 i p.site) (sym piece_is) ∙ moved.1 in
+      moved_by (seen b.array) (spot_of at) spot.is_piece at.place.0 node_is.variable node_is.node (sym node_is.number) p.site moved.0.place moved.0.map_is h found whole
 
   pub helper_of_producer : IsTrue (has at.piece.now.domain (before t.point h.direction)) → (q d : ℕ) → IsLinkedBy b.array at t.cycle (handed_tap p h) q d → HasHelper b q h.number
   helper_of_producer inside q d link =
@@ -126,6 +126,6 @@ module _ (b : Blueprint) (is : IsBlueprint b) (at : SpotMade) (spot : IsSpot b.a
       (subst (λ (u : Tree). IsLinkedBy w at t.cycle (record { place = record { piece = p.piece; site = p.site; tree = u }; way = way }) q d) moved.0.tree link) in
       let l = as_linked w at t.cycle p.site tree way q d here_link in
       let y : Point = before t.point h.direction in
-      let from = linked (seen w) (arranged_seen w is.array) (spot_of at) t.cycle t.point reading p.site tree way q d l at.node y (refl, refl, inside) in
+      let from = linked (seen w) (arranged_seen w is.array) (spot_of at) t.cycle t.point reading p.site tree way q d l at.node.0 y (refl, refl, inside) in
       let there = subst (λ (i : ℕ). ComputesIn w q from.cycle i y) helper.node from.computes in
       has_helper b is h.number helper.helper (view_variable at.var.now) (view_piece at.piece.now) (record { place = moved.0.place; map = moved.0.map_is }) helper.is q from.cycle y there inside

@@ -66,15 +66,15 @@ module _ (b : Blueprint) (is : IsBlueprint b) (at : SpotMade) (h : HelperPlan) (
     number = on.number;
   }
 
-  pub pieces_there : ArePieces b.array at.cell on.spot_on.plan.pieces
-  pieces_there = is.plans.pieces at.cell on.spot_on.plan on.spot_on.is_plan
+  pub pieces_there : ArePieces b.array at.cell.0 on.spot_on.plan.pieces
+  pieces_there = is.plans.pieces at.cell.0 on.spot_on.plan on.spot_on.is_plan
 
-  pub helped_there : IsHelped b.array is.array at.cell on.spot_on.plan.pieces pieces_there h at on.place on.pipeline
+  pub helped_there : IsHelped b.array is.array at.cell.0 on.spot_on.plan.pieces pieces_there h at on.place on.pipeline
   unfolding from_place
   helped_there =
-      let x = helped b.array is.array at.cell on.spot_on.plan.pieces pieces_there h from_place in
+      let x = helped b.array is.array at.cell.0 on.spot_on.plan.pieces pieces_there h from_place in
       let e : slice_get (spots_on b.array on.spot_on.plan.pieces) h.piece ≡ Some at = ap (λ (k : ℕ). slice_get (spots_on b.array on.spot_on.plan.pieces) k) on.piece_is ∙ on.spot_on.is_spot in
-      subst (λ (y : SpotMade). IsHelped b.array is.array at.cell on.spot_on.plan.pieces pieces_there h y on.place on.pipeline) (some_is x.0 at (sym x.1.is_spot ∙ e)) x.1
+      subst (λ (y : SpotMade). IsHelped b.array is.array at.cell.0 on.spot_on.plan.pieces pieces_there h y on.place on.pipeline) (some_is x.0 at (sym x.1.is_spot ∙ e)) x.1
 
   -- ---- its modes
 
@@ -107,17 +107,17 @@ module _ (b : Blueprint) (is : IsBlueprint b) (at : SpotMade) (h : HelperPlan) (
         let pieces = on.spot_on.plan.pieces in
         let there = pieces_there in
         let x = helped_there in
-        let variable : view_variable at.var.now ≡ v = variable_is w is.array at.cell pieces there h from_place at x helper v piece r it in
+        let variable : view_variable at.var.now ≡ v = variable_is w is.array at.cell.0 pieces there h from_place at x helper v piece r it in
         let wide = ap (λ (u : Variable). u.width) variable in
-        let read : tree ≡ reference r.place r.map = tree_is w is.array at.cell pieces there h from_place at x helper v piece r it in
+        let read : tree ≡ reference r.place r.map = tree_is w is.array at.cell.0 pieces there h from_place at x helper v piece r it in
         let first : entry_mode ≡ mode_by (inlet_by s (λ j. j) None (reference r.place r.map)) (reference r.place r.map) =
         ap (λ (y : ProgramSite). record { windows = windows_by found.entry_marks; work = one_site y tree }) entries_are ∙ ap (λ (t : Tree). mode_by (inlet_by s (λ j. j) None t) t) read in
         let second : own_mode ≡ record { windows = windows_by found.own_marks; work = one_site (site_by Taps width found.own) (reference r.place r.map) } =
         ap₂ (λ (y : ProgramSite) (t : Tree). record { windows = windows_by found.own_marks; work = one_site y t }) own_is read in
-        pipeline_lane (seen w) counter (lanes_of b.cells) (helper_spot (seen w) helper v piece at.cell) h.number helper r
-        (λ c d m n y z. counted.within at.cell c d m n y z) (λ c m n y z. one_seen w is.array at.cell c m n y z)
-        at.slots (slots_are w is.array at.cell pieces there h from_place at x helper v piece r it) order in_order
-        found (moments_are w is.array at.cell pieces there h from_place at x helper v piece r it (count_in counter) (lanes_of b.cells) order found are)
+        pipeline_lane (seen w) counter (lanes_of b.cells) (helper_spot (seen w) helper v piece at.cell.0) h.number helper r
+        (λ c d m n y z. counted.within at.cell.0 c d m n y z) (λ c m n y z. one_seen w is.array at.cell.0 c m n y z)
+        at.slots (slots_are w is.array at.cell.0 pieces there h from_place at x helper v piece r it) order in_order
+        found (moments_are w is.array at.cell.0 pieces there h from_place at x helper v piece r it (count_in counter) (lanes_of b.cells) order found are)
         entries.width width (entry_bits ∙ ap (λ (t : Tree). read_width s (view_variable at.var.now).width None t) read) (own_bits ∙ wide)
         lane frame.home frame.rank (frame.width ∙ wide) (modes ∙ ap₂ (λ (m n : Mode). m ∷ n ∷ []) first second) frame.size
 
@@ -145,7 +145,7 @@ module _ (b : Blueprint) (is : IsBlueprint b) (p : ℕ) (h : HelperPlan) (has : 
 
   -- the piece of its place
   pub record IsPlanned (at : SpotMade) : Type 0 where
-    pub cell : at.cell ≡ p
+    pub cell : at.cell.0 ≡ p
     pub on : IsHelperOn b at h
     pub few : h.number < length (helpers_of b.array)
 

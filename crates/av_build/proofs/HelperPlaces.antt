@@ -103,8 +103,8 @@ module _ (w : ArrayMade) (is : IsArray w) (p : ℕ) (pieces : Pieces) (are : Are
   abbrev s : FlatSystem
   s = system_of w
 
-  pub spot_at : (k : ℕ) (at : SpotMade) → slice_get (spots_on w pieces) k ≡ Some at → (at.cell ≡ p) × (0 < length at.slots) × IsSpot w at
-  spot_at k at e = at_index (λ (at : SpotMade). (at.cell ≡ p) × (0 < length at.slots) × IsSpot w at) (spots_on w pieces) are.spots.each k at e
+  pub spot_at : (k : ℕ) (at : SpotMade) → slice_get (spots_on w pieces) k ≡ Some at → (at.cell.0 ≡ p) × (0 < length at.slots) × IsSpot w at
+  spot_at k at e = at_index (λ (at : SpotMade). (at.cell.0 ≡ p) × (0 < length at.slots) × IsSpot w at) (spots_on w pieces) are.spots.each k at e
 
   -- a place with a helper, as a helper of the array
   pub record IsHelped (h : HelperPlan) (at : SpotMade) (mine : Site) (pipeline : Pipeline) : Type 0 where
@@ -115,7 +115,7 @@ module _ (w : ArrayMade) (is : IsArray w) (p : ℕ) (pieces : Pieces) (are : Are
     pub map_is : Map
     pub tree : view mine.place.tree ≡ reference place map_is
     pub helps : IsHelper (seen w) h.number helper (view_variable at.var.now) (view_piece at.piece.now) (record { place = place; map = map_is })
-    pub node : number_at s helper.var ≡ at.node
+    pub node : number_at s helper.var ≡ at.node.0
     pub piece : helper.piece ≡ at.number
     pub site : helper.site ≡ mine.place.site
     pub direction : helper.direction ≡ pipeline.direction
@@ -130,11 +130,11 @@ module _ (w : ArrayMade) (is : IsArray w) (p : ℕ) (pieces : Pieces) (are : Are
       let own = are.sites h.piece at on.sites here.1 on.are_sites in
       let placed = at_index (IsSiteOf w at) on.sites own.each h.site on.site on.is_site in
       let q = place_of on.site.place in
-      let b = by_tree (helpers_of w) at.place q q.tree on.pipeline refl (sym placed.pipeline ∙ on.is_pipeline) in
+      let b = by_tree (helpers_of w) at.place.0 q q.tree on.pipeline refl (sym placed.pipeline ∙ on.is_pipeline) in
       let r = b.0 in
       let piece = (place_read at.number (view at.piece.now.tree) q placed.is_place).piece_is in
-      let found = ap (λ (k : ℕ). helper_at (helpers_of w) at.place k q.site) (sym piece) ∙ b.1 in
-      let f = found_helper (helpers_of w) 0 at.place at.number q.site on.pipeline found in
+      let found = ap (λ (k : ℕ). helper_at (helpers_of w) at.place.0 k q.site) (sym piece) ∙ b.1 in
+      let f = found_helper (helpers_of w) 0 at.place.0 at.number q.site on.pipeline found in
       let n = node_of w at spot in
       let same : f.at ≡ h.number = (let e = f.number_is in let g = on.number in omega (arith, e, g)) in
       let pipeline : ◌≡◌ {A = Pipeline} on.pipeline (record { number = h.number; direction = f.helper.direction }) =
@@ -151,8 +151,8 @@ module _ (w : ArrayMade) (is : IsArray w) (p : ℕ) (pieces : Pieces) (are : Are
           tree = r.tree;
           helps = record {
             is_helper = subst (λ (k : ℕ). slice_get (helpers_of w) k ≡ Some f.helper) same f.is_helper;
-            is_first = ap (λ (k : ℕ). helper_at (helpers_of w) k f.helper.piece f.helper.site) f.var_is ∙ ap (λ (k : ℕ). helper_at (helpers_of w) at.place k f.helper.site) f.piece_is
-                ∙ ap (λ (k : ℕ). helper_at (helpers_of w) at.place at.number k) f.site_is ∙ found ∙ ap (λ (x : Pipeline). Some x) pipeline;
+            is_first = ap (λ (k : ℕ). helper_at (helpers_of w) k f.helper.piece f.helper.site) f.var_is ∙ ap (λ (k : ℕ). helper_at (helpers_of w) at.place.0 k f.helper.site) f.piece_is
+                ∙ ap (λ (k : ℕ). helper_at (helpers_of w) at.place.0 at.number k) f.site_is ∙ found ∙ ap (λ (x : Pipeline). Some x) pipeline;
             is_variable = ap (slice_get s.variables) f.var_is ∙ n.variable;
             is_node = n.node;
             is_piece = ap (slice_get (view_variable at.var.now).pieces) f.piece_is ∙ spot.is_piece;
@@ -183,7 +183,7 @@ module _ (w : ArrayMade) (is : IsArray w) (p : ℕ) (pieces : Pieces) (are : Are
 
     pub spot_is : spot_of at ≡ helper_spot (seen w) other v piece p
     spot_is =
-        ap (λ (k : ℕ). record { cell = k; node = at.node; variable = view_variable at.var.now; number = at.number; piece = view_piece at.piece.now }) (spot_at h.piece at e.is_spot).0
+        ap (λ (k : ℕ). record { cell = k; node = at.node.0; variable = view_variable at.var.now; number = at.number; piece = view_piece at.piece.now }) (spot_at h.piece at e.is_spot).0
         ∙ ap (λ (k : ℕ). record { cell = p; node = k; variable = view_variable at.var.now; number = at.number; piece = view_piece at.piece.now }) (sym e.node ∙ ap (λ (k : Helper). number_at s k.var) same)
         ∙ ap (λ (u : Variable). record { cell = p; node = number_at s other.var; variable = u; number = at.number; piece = view_piece at.piece.now }) variable_is
         ∙ ap (λ (k : ℕ). record { cell = p; node = number_at s other.var; variable = v; number = k; piece = view_piece at.piece.now }) (sym e.piece ∙ ap (λ (k : Helper). k.piece) same)

@@ -6,6 +6,7 @@ use Rattle.av_flat.specs.Trees.{Tree, reference, constant, binary, choice, restr
 use Rattle.av_flat.specs.Values.{picked}
 use Rattle.av_space.specs.declared.array.Array.{Array as ArrayMade}
 use Rattle.av_space.specs.declared.layout.Slot.{Slot}
+use Rattle.av_space.specs.declared.numbers.CellNumber.{CellNumber}
 use Rattle.av_space.specs.declared.origin.Origin.{Origin}
 use Rattle.av_space.specs.declared.origin.Origin.TheVariants as origin
 use Rattle.av_space.specs.declared.spots.Spot.{Spot as SpotMade}
@@ -24,19 +25,19 @@ producer_in w is at c tap q d l =
     omega (arith, low, e)
 
 abbrev cell_in : Origin → ℕ
-cell_in (origin.Value q d) = q
+cell_in (origin.Value q d) = q.0
 cell_in _ = 0
 
-module _ (w : ArrayMade) (is : IsArray w) (at : SpotMade) (t : Slot) (p : Place) (h : Option Pipeline) (q d : ℕ) where
-  by_pick : (place n : ℕ) (o : Option Point) → IsPickOrigin w at t.cycle p place n o (origin.Value q d) → q < length (cells_of w)
+module _ (w : ArrayMade) (is : IsArray w) (at : SpotMade) (t : Slot) (p : Place) (h : Option Pipeline) (q : CellNumber) (d : ℕ) where
+  by_pick : (place n : ℕ) (o : Option Point) → IsPickOrigin w at t.cycle p place n o (origin.Value q d) → q.0 < length (cells_of w)
   by_pick place n None e = absurd cc
   by_pick place n (Some y) (a, b, read, is_read, node, l, e) =
-      let same : q ≡ a = ap cell_in e in
-      let low = producer_in w is at t.cycle (record { place = p; way = each }) a b l in
+      let same : q.0 ≡ a.0 = ap cell_in e in
+      let low = producer_in w is at t.cycle (record { place = p; way = each }) a.0 b l in
       omega (arith, same, low)
 
-  pub value_in : (u : Tree) → IsOriginBy w at t p h u (origin.Value q d) → q < length (cells_of w)
-  value_in (reference place m) (over_link a b read is_read node l) = producer_in w is at t.cycle (record { place = record { piece = at.number; site = p.site; tree = reference place m }; way = own_way h }) q d l
+  pub value_in : (u : Tree) → IsOriginBy w at t p h u (origin.Value q d) → q.0 < length (cells_of w)
+  value_in (reference place m) (over_link a b read is_read node l) = producer_in w is at t.cycle (record { place = record { piece = at.number; site = p.site; tree = reference place m }; way = own_way h }) q.0 d l
   value_in (pick place choices n) o = by_pick place n (picked choices t.point) o
   value_in (constant n) o = absurd o
   value_in (binary g l r) o = absurd o

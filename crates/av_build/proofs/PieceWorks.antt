@@ -27,7 +27,7 @@ plain_piece w is at spot =
     let s = system_of w in
     let g = scheduled w.timed.now (placings_of w) (cells_of w) is.legal is.layout.are_placings is.layout.are_cells in
     let v = view_variable at.var.now in
-    let among = among_at s.variables (node_place s at.node) v (node_variable s at.node v spot.is_variable) in
+    let among = among_at s.variables (node_place s at.node.0) v (node_variable s at.node.0 v spot.is_variable) in
     plain_tree (view at.piece.now.tree) (g.plain v at.number (view_piece at.piece.now) among spot.is_piece) (g.no_reduction v at.number (view_piece at.piece.now) among spot.is_piece)
 
 module _ (w : ArrayMade) (count : ℕ → ℕ) (lanes : Lanes) (first : ℕ) (at : SpotMade) where

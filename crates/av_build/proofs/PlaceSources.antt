@@ -30,7 +30,7 @@ as_linked w at c site tree way q d l = record { tap = l.number; is_tap = l.is_ta
 -- the source that is made for where a place reads
 abbrev pub IsMadeFor : Lanes → Origin → WordSource → Type 0
 IsMadeFor lanes (origin.Port n) source = source ≡ Input n
-IsMadeFor lanes (origin.Value q d) source = source ≡ Line (lanes.of_value q) d
+IsMadeFor lanes (origin.Value q d) source = source ≡ Line (lanes.of_value q.0) d
 IsMadeFor lanes (origin.Number n) source = source ≡ Word n.bits
 
 module _ (w : ArrayMade) (lanes : Lanes) (at : SpotMade) (mine : Site) (placed : IsSiteOf w at mine) (t : Slot) where
@@ -44,18 +44,18 @@ module _ (w : ArrayMade) (lanes : Lanes) (at : SpotMade) (mine : Site) (placed :
   of_reference place m way (origin.Port k) source e (at_port n read is_read is_in is_reference is_port) =
       subst (IsReferenceSource (seen w) lanes (spot_of at) t.cycle p.site place m way) (sym e) (by_port n read is_read is_in is_reference is_port)
   of_reference place m way (origin.Value a b) source e (over_link q d read is_read node l) =
-      subst (IsReferenceSource (seen w) lanes (spot_of at) t.cycle p.site place m way) (sym e) (by_link q d read is_read node (as_linked w at t.cycle p.site (reference place m) way q d l))
+      subst (IsReferenceSource (seen w) lanes (spot_of at) t.cycle p.site place m way) (sym e) (by_link q.0 d read is_read node (as_linked w at t.cycle p.site (reference place m) way q.0 d l))
   of_reference place m way (origin.Number k) source e h = elim h [ ]
 
   of_pick : (tree : Tree) (place n : ℕ) (o : Option Point) (found : Origin) (source : WordSource) → p.tree ≡ tree → IsMadeFor lanes found source → IsPickOrigin w at t.cycle p place n o found → IsPickSource (seen w) lanes (spot_of at) t.cycle p.site place tree n o source
   of_pick tree place n None found source f e h = subst (λ (k : Origin). IsMadeFor lanes k source) h e
   of_pick tree place n (Some y) found source f e (q, d, read, is_read, node, l, is) = (
-    q,
+    q.0,
     d,
     read,
     is_read,
     node,
-    as_linked w at t.cycle p.site tree each q d (subst (λ (x : Place). IsLinkedBy w at t.cycle (record { place = x; way = each }) q d) same l),
+    as_linked w at t.cycle p.site tree each q.0 d (subst (λ (x : Place). IsLinkedBy w at t.cycle (record { place = x; way = each }) q.0 d) same l),
     subst (λ (k : Origin). IsMadeFor lanes k source) is e,
   )
     where
@@ -82,34 +82,34 @@ module _ (w : ArrayMade) (lanes : Lanes) (at : SpotMade) (mine : Site) (placed :
     where
       same : p ≡ record { piece = at.number; site = p.site; tree = reference place m }
       same = ap (λ (k : ℕ). record { piece = k; site = p.site; tree = p.tree }) piece_is ∙ ap (λ (u : Tree). record { piece = at.number; site = p.site; tree = u }) f
-  pipeline_link h is (pick place choices n) f q d source e l = let g = sym is ∙ placed.pipeline ∙ ap (pipeline_by (helpers_of w) at.place p) f in absurd cc
-  pipeline_link h is (constant n) f q d source e l = let g = sym is ∙ placed.pipeline ∙ ap (pipeline_by (helpers_of w) at.place p) f in absurd cc
-  pipeline_link h is (binary g x r) f q d source e l = let g = sym is ∙ placed.pipeline ∙ ap (pipeline_by (helpers_of w) at.place p) f in absurd cc
-  pipeline_link h is (choice x k r y z) f q d source e l = let g = sym is ∙ placed.pipeline ∙ ap (pipeline_by (helpers_of w) at.place p) f in absurd cc
-  pipeline_link h is (restriction b u) f q d source e l = let g = sym is ∙ placed.pipeline ∙ ap (pipeline_by (helpers_of w) at.place p) f in absurd cc
-  pipeline_link h is (cases ts) f q d source e l = let g = sym is ∙ placed.pipeline ∙ ap (pipeline_by (helpers_of w) at.place p) f in absurd cc
-  pipeline_link h is (dependence m u) f q d source e l = let g = sym is ∙ placed.pipeline ∙ ap (pipeline_by (helpers_of w) at.place p) f in absurd cc
-  pipeline_link h is (reduction o m u set) f q d source e l = let g = sym is ∙ placed.pipeline ∙ ap (pipeline_by (helpers_of w) at.place p) f in absurd cc
+  pipeline_link h is (pick place choices n) f q d source e l = let g = sym is ∙ placed.pipeline ∙ ap (pipeline_by (helpers_of w) at.place.0 p) f in absurd cc
+  pipeline_link h is (constant n) f q d source e l = let g = sym is ∙ placed.pipeline ∙ ap (pipeline_by (helpers_of w) at.place.0 p) f in absurd cc
+  pipeline_link h is (binary g x r) f q d source e l = let g = sym is ∙ placed.pipeline ∙ ap (pipeline_by (helpers_of w) at.place.0 p) f in absurd cc
+  pipeline_link h is (choice x k r y z) f q d source e l = let g = sym is ∙ placed.pipeline ∙ ap (pipeline_by (helpers_of w) at.place.0 p) f in absurd cc
+  pipeline_link h is (restriction b u) f q d source e l = let g = sym is ∙ placed.pipeline ∙ ap (pipeline_by (helpers_of w) at.place.0 p) f in absurd cc
+  pipeline_link h is (cases ts) f q d source e l = let g = sym is ∙ placed.pipeline ∙ ap (pipeline_by (helpers_of w) at.place.0 p) f in absurd cc
+  pipeline_link h is (dependence m u) f q d source e l = let g = sym is ∙ placed.pipeline ∙ ap (pipeline_by (helpers_of w) at.place.0 p) f in absurd cc
+  pipeline_link h is (reduction o m u set) f q d source e l = let g = sym is ∙ placed.pipeline ∙ ap (pipeline_by (helpers_of w) at.place.0 p) f in absurd cc
 
   -- at an entry point the reference itself
   pub pipeline_own : (h : Pipeline) → mine.pipeline ≡ Some h → (u : Tree) → p.tree ≡ u → (source : WordSource) → IsOwnSource (seen w) lanes (spot_of at) t.point t.cycle p.site mine.pipeline u source
       → IsEntrySource (seen w) lanes (spot_of at) t.cycle p.site h u source
   pipeline_own h is (reference place m) f source own = subst (λ (o : Option Pipeline). IsReferenceSource (seen w) lanes (spot_of at) t.cycle p.site place m (own_way o) source) is own
-  pipeline_own h is (pick place choices n) f source own = let g = sym is ∙ placed.pipeline ∙ ap (pipeline_by (helpers_of w) at.place p) f in absurd cc
-  pipeline_own h is (constant n) f source own = let g = sym is ∙ placed.pipeline ∙ ap (pipeline_by (helpers_of w) at.place p) f in absurd cc
-  pipeline_own h is (binary g x r) f source own = let g = sym is ∙ placed.pipeline ∙ ap (pipeline_by (helpers_of w) at.place p) f in absurd cc
-  pipeline_own h is (choice x k r y z) f source own = let g = sym is ∙ placed.pipeline ∙ ap (pipeline_by (helpers_of w) at.place p) f in absurd cc
-  pipeline_own h is (restriction b u) f source own = let g = sym is ∙ placed.pipeline ∙ ap (pipeline_by (helpers_of w) at.place p) f in absurd cc
-  pipeline_own h is (cases ts) f source own = let g = sym is ∙ placed.pipeline ∙ ap (pipeline_by (helpers_of w) at.place p) f in absurd cc
-  pipeline_own h is (dependence m u) f source own = let g = sym is ∙ placed.pipeline ∙ ap (pipeline_by (helpers_of w) at.place p) f in absurd cc
-  pipeline_own h is (reduction o m u set) f source own = let g = sym is ∙ placed.pipeline ∙ ap (pipeline_by (helpers_of w) at.place p) f in absurd cc
+  pipeline_own h is (pick place choices n) f source own = let g = sym is ∙ placed.pipeline ∙ ap (pipeline_by (helpers_of w) at.place.0 p) f in absurd cc
+  pipeline_own h is (constant n) f source own = let g = sym is ∙ placed.pipeline ∙ ap (pipeline_by (helpers_of w) at.place.0 p) f in absurd cc
+  pipeline_own h is (binary g x r) f source own = let g = sym is ∙ placed.pipeline ∙ ap (pipeline_by (helpers_of w) at.place.0 p) f in absurd cc
+  pipeline_own h is (choice x k r y z) f source own = let g = sym is ∙ placed.pipeline ∙ ap (pipeline_by (helpers_of w) at.place.0 p) f in absurd cc
+  pipeline_own h is (restriction b u) f source own = let g = sym is ∙ placed.pipeline ∙ ap (pipeline_by (helpers_of w) at.place.0 p) f in absurd cc
+  pipeline_own h is (cases ts) f source own = let g = sym is ∙ placed.pipeline ∙ ap (pipeline_by (helpers_of w) at.place.0 p) f in absurd cc
+  pipeline_own h is (dependence m u) f source own = let g = sym is ∙ placed.pipeline ∙ ap (pipeline_by (helpers_of w) at.place.0 p) f in absurd cc
+  pipeline_own h is (reduction o m u set) f source own = let g = sym is ∙ placed.pipeline ∙ ap (pipeline_by (helpers_of w) at.place.0 p) f in absurd cc
 
   -- ---- the word of the place
 
   module _ (spot : IsSpot w at) where
-    helper_is : (place : ℕ) (m : Map) → p.tree ≡ reference place m → mine.pipeline ≡ helper_at (helpers_of w) (node_place (system_of w) at.node) at.number p.site
+    helper_is : (place : ℕ) (m : Map) → p.tree ≡ reference place m → mine.pipeline ≡ helper_at (helpers_of w) (node_place (system_of w) at.node.0) at.number p.site
     helper_is place m f =
-        placed.pipeline ∙ ap (pipeline_by (helpers_of w) at.place p) f ∙ ap (λ (n : ℕ). helper_at (helpers_of w) n p.piece p.site) spot.place ∙ ap (λ (k : ℕ). helper_at (helpers_of w) (node_place (system_of w) at.node) k p.site) piece_is
+        placed.pipeline ∙ ap (pipeline_by (helpers_of w) at.place.0 p) f ∙ ap (λ (n : ℕ). helper_at (helpers_of w) n p.piece p.site) spot.place ∙ ap (λ (k : ℕ). helper_at (helpers_of w) (node_place (system_of w) at.node.0) k p.site) piece_is
 
     -- without a helper
     pub plain_source : mine.pipeline ≡ None → (u : Tree) → p.tree ≡ u → (source : WordSource) → IsOwnSource (seen w) lanes (spot_of at) t.point t.cycle p.site mine.pipeline u source
@@ -128,14 +128,14 @@ module _ (w : ArrayMade) (lanes : Lanes) (at : SpotMade) (mine : Site) (placed :
 
     -- with the helper h, of the helper's lane on the cell
     pub piped_source : (h : Pipeline) → mine.pipeline ≡ Some h → (u : Tree) → p.tree ≡ u → ((place : ℕ) (m : Map) → u ≡ reference place m → slice_get (references (view at.piece.now.tree)) p.site ≡ Some (record { place = place; map = m }))
-        → (source : WordSource) → source ≡ Line (lanes.of_helper h.number at.cell) 0 → IsPlaceSource (seen w) lanes (spot_of at) t.point t.cycle p.site u source
+        → (source : WordSource) → source ≡ Line (lanes.of_helper h.number at.cell.0) 0 → IsPlaceSource (seen w) lanes (spot_of at) t.point t.cycle p.site u source
     piped_source h is (reference place m) f among source e =
         subst (λ (o : Option Pipeline). IsHelpedSource (seen w) lanes (spot_of at) o t.cycle p.site place m source) (sym is ∙ helper_is place m f) (among place m refl, e)
-    piped_source h is (pick place choices n) f among source e = let g = sym is ∙ placed.pipeline ∙ ap (pipeline_by (helpers_of w) at.place p) f in absurd cc
-    piped_source h is (constant n) f among source e = let g = sym is ∙ placed.pipeline ∙ ap (pipeline_by (helpers_of w) at.place p) f in absurd cc
-    piped_source h is (binary g x r) f among source e = let g = sym is ∙ placed.pipeline ∙ ap (pipeline_by (helpers_of w) at.place p) f in absurd cc
-    piped_source h is (choice x k r y z) f among source e = let g = sym is ∙ placed.pipeline ∙ ap (pipeline_by (helpers_of w) at.place p) f in absurd cc
-    piped_source h is (restriction b u) f among source e = let g = sym is ∙ placed.pipeline ∙ ap (pipeline_by (helpers_of w) at.place p) f in absurd cc
-    piped_source h is (cases ts) f among source e = let g = sym is ∙ placed.pipeline ∙ ap (pipeline_by (helpers_of w) at.place p) f in absurd cc
-    piped_source h is (dependence m u) f among source e = let g = sym is ∙ placed.pipeline ∙ ap (pipeline_by (helpers_of w) at.place p) f in absurd cc
-    piped_source h is (reduction o m u set) f among source e = let g = sym is ∙ placed.pipeline ∙ ap (pipeline_by (helpers_of w) at.place p) f in absurd cc
+    piped_source h is (pick place choices n) f among source e = let g = sym is ∙ placed.pipeline ∙ ap (pipeline_by (helpers_of w) at.place.0 p) f in absurd cc
+    piped_source h is (constant n) f among source e = let g = sym is ∙ placed.pipeline ∙ ap (pipeline_by (helpers_of w) at.place.0 p) f in absurd cc
+    piped_source h is (binary g x r) f among source e = let g = sym is ∙ placed.pipeline ∙ ap (pipeline_by (helpers_of w) at.place.0 p) f in absurd cc
+    piped_source h is (choice x k r y z) f among source e = let g = sym is ∙ placed.pipeline ∙ ap (pipeline_by (helpers_of w) at.place.0 p) f in absurd cc
+    piped_source h is (restriction b u) f among source e = let g = sym is ∙ placed.pipeline ∙ ap (pipeline_by (helpers_of w) at.place.0 p) f in absurd cc
+    piped_source h is (cases ts) f among source e = let g = sym is ∙ placed.pipeline ∙ ap (pipeline_by (helpers_of w) at.place.0 p) f in absurd cc
+    piped_source h is (dependence m u) f among source e = let g = sym is ∙ placed.pipeline ∙ ap (pipeline_by (helpers_of w) at.place.0 p) f in absurd cc
+    piped_source h is (reduction o m u set) f among source e = let g = sym is ∙ placed.pipeline ∙ ap (pipeline_by (helpers_of w) at.place.0 p) f in absurd cc

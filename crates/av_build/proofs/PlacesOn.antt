@@ -13,14 +13,14 @@ use Rattle.av_build.specs.inner.Lanes.{IsHelperOn}
 use Rattle.av_build.proofs.Pairwise.{element_of}
 
 module _ (b : Blueprint) (at : SpotMade) (h : HelperPlan) (on : IsHelperOn b at h) where
-  pub cell_low : at.cell < length b.cells
-  cell_low = in_range b.cells at.cell on.spot_on.plan on.spot_on.is_plan
+  pub cell_low : at.cell.0 < length b.cells
+  cell_low = in_range b.cells at.cell.0 on.spot_on.plan on.spot_on.is_plan
 
-  module _ (cells : List CellPlan) (plan : CellPlan) (cells_are : cells ≡ b.cells) (plan_is : plan ≡ get_or cells at.cell plan) where
+  module _ (cells : List CellPlan) (plan : CellPlan) (cells_are : cells ≡ b.cells) (plan_is : plan ≡ get_or cells at.cell.0 plan) where
     pub same_plan : plan ≡ on.spot_on.plan
-    same_plan = some_is plan on.spot_on.plan (sym (element_of b.cells cells at.cell plan plan cells_are cell_low plan_is) ∙ on.spot_on.is_plan)
+    same_plan = some_is plan on.spot_on.plan (sym (element_of b.cells cells at.cell.0 plan plan cells_are cell_low plan_is) ∙ on.spot_on.is_plan)
 
-    module _ (sites : List (List Site)) (sites_are : sites ≡ (get_or cells at.cell plan).pieces.sites) where
+    module _ (sites : List (List Site)) (sites_are : sites ≡ (get_or cells at.cell.0 plan).pieces.sites) where
       pub same_sites : sites ≡ on.spot_on.plan.pieces.sites
       same_sites = sites_are ∙ ap (λ (x : CellPlan). x.pieces.sites) (sym plan_is ∙ same_plan)
 

@@ -85,7 +85,7 @@ module _ (b : Blueprint) (is : IsBlueprint b) (port : InPort) (among : Contains 
       is_made : slice_get (spots_on w plan.pieces) k ≡ Some made
       is_made = get_mapped (spot_by w) plan.pieces.spots k at is_at
 
-      here : (at.cell ≡ port.cell) × (0 < length made.slots) × IsSpot w made
+      here : (at.cell.0 ≡ port.cell) × (0 < length made.slots) × IsSpot w made
       here = spot_at w is.array port.cell plan.pieces pieces k made is_made
 
       -- is that of each computation there
@@ -145,7 +145,7 @@ module _ (b : Blueprint) (is : IsBlueprint b) (port : InPort) (among : Contains 
       is_at : slice_get (spots_on w plan.pieces) found.number ≡ Some at
       is_at = get_mapped (spot_by w) plan.pieces.spots found.number found.at found.is_spot
 
-      spot : (at.cell ≡ port.cell) × (0 < length at.slots) × IsSpot w at
+      spot : (at.cell.0 ≡ port.cell) × (0 < length at.slots) × IsSpot w at
       spot = spot_at w is.array port.cell plan.pieces pieces found.number at is_at
 
       placed : IsSiteOf w at site

@@ -11,7 +11,7 @@ use Rattle.av_build.specs.inner.Lanes.{HaveSamePieces}
 use Rattle.av_build.specs.inner.SpotPlans.{spot_by}
 
 abbrev pub HaveSameSpots : List SpotMade → List SpotMade → Type 0
-HaveSameSpots a b = (length a ≡ length b) × ((k : ℕ) (x y : SpotMade) → slice_get a k ≡ Some x → slice_get b k ≡ Some y → (x.node ≡ y.node) × (x.number ≡ y.number))
+HaveSameSpots a b = (length a ≡ length b) × ((k : ℕ) (x y : SpotMade) → slice_get a k ≡ Some x → slice_get b k ≡ Some y → (x.node.0 ≡ y.node.0) × (x.number ≡ y.number))
 
 module _ (w : ArrayMade) (a b : List SpotPlan) where
   pub same_spots : HaveSamePieces a b → HaveSameSpots (map (spot_by w) a) (map (spot_by w) b)
@@ -21,7 +21,7 @@ module _ (w : ArrayMade) (a b : List SpotPlan) where
         let u = from_map (spot_by w) a k x is_x in
         let v = from_map (spot_by w) b k y is_y in
         let e = same.1 k u.0 v.0 u.1 v.1 in
-        (ap (λ (s : SpotMade). s.node) (sym u.2) ∙ e.0 ∙ ap (λ (s : SpotMade). s.node) v.2, ap (λ (s : SpotMade). s.number) (sym u.2) ∙ e.1 ∙ ap (λ (s : SpotMade). s.number) v.2)),
+        (ap (λ (s : SpotMade). s.node.0) (sym u.2) ∙ e.0 ∙ ap (λ (s : SpotMade). s.node.0) v.2, ap (λ (s : SpotMade). s.number) (sym u.2) ∙ e.1 ∙ ap (λ (s : SpotMade). s.number) v.2)),
   )
 
   pub same_plans : HaveSameSpots (map (spot_by w) a) (map (spot_by w) b) → HaveSamePieces a b

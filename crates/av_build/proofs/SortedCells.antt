@@ -65,19 +65,19 @@ module _ (b : Blueprint) (is : IsBlueprint b) where
     pieces : ArePieces w p plan.pieces
     pieces = is.plans.pieces p plan is_plan
 
-    on : (k : ℕ) (at : SpotMade) → slice_get (spots_on w plan.pieces) k ≡ Some at → (at.cell ≡ p) × (0 < length at.slots) × IsSpot w at
+    on : (k : ℕ) (at : SpotMade) → slice_get (spots_on w plan.pieces) k ≡ Some at → (at.cell.0 ≡ p) × (0 < length at.slots) × IsSpot w at
     on k at e = spot_at w is.array p plan.pieces pieces k at e
 
     use_of : (k : ℕ) (at : SpotMade) → slice_get (spots_on w plan.pieces) k ≡ Some at → Use p at.number (view_piece at.piece.now)
     use_of k at e =
         let s = on k at e in
         let slot = there_is at.slots 0 s.1 in
-        let computed = at_index (IsSlotIn w at.cell at.node at.piece.now.domain) at.slots s.2.are_slots.each 0 slot.0 slot.1 in
+        let computed = at_index (IsSlotIn w at.cell.0 at.node.0 at.piece.now.domain) at.slots s.2.are_slots.each 0 slot.0 slot.1 in
         record {
           cycle = slot.0.cycle;
-          node = at.node;
+          node = at.node.0;
           point = slot.0.point;
-          computes = subst (λ (n : ℕ). ComputesIn w n slot.0.cycle at.node slot.0.point) s.0 computed.computes;
+          computes = subst (λ (n : ℕ). ComputesIn w n slot.0.cycle at.node.0 slot.0.point) s.0 computed.computes;
           variable = view_variable at.var.now;
           is_variable = s.2.is_variable;
           is_piece = s.2.is_piece;

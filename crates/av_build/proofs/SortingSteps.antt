@@ -27,7 +27,7 @@ same_through a b c h g = (
 
 -- up to a number
 abbrev pub AreSameUpTo : List SpotPlan → List SpotPlan → ℕ → Type 0
-AreSameUpTo a b n = (k : ℕ) (x y : SpotPlan) → k < n → slice_get a k ≡ Some x → slice_get b k ≡ Some y → (x.node ≡ y.node) × (x.number ≡ y.number)
+AreSameUpTo a b n = (k : ℕ) (x y : SpotPlan) → k < n → slice_get a k ≡ Some x → slice_get b k ≡ Some y → (x.node.0 ≡ y.node.0) × (x.number ≡ y.number)
 
 -- ---- kinds of the first n cells
 
@@ -94,7 +94,7 @@ module _ (cells : List CellPlan) (firsts kinds : List ℕ) (n : ℕ) (h : AreKin
           let size = h.one_each in
           let place : n ≡ p = (let g = b.0 in omega (arith, g, size)) in
           let here : cell ≡ x = some_is cell x (sym is_cell ∙ ap (λ (i : ℕ). slice_get cells i) place ∙ f) in
-          (n, cell, behind firsts n j b.1, is_cell, subst (λ (y : CellPlan). HaveSamePieces cell.pieces.spots y.pieces.spots) here (refl, λ k u v is_u is_v. let same = some_is u v (sym is_u ∙ is_v) in (ap (λ (s : SpotPlan). s.node) same, ap (λ (s : SpotPlan). s.number) same))))
+          (n, cell, behind firsts n j b.1, is_cell, subst (λ (y : CellPlan). HaveSamePieces cell.pieces.spots y.pieces.spots) here (refl, λ k u v is_u is_v. let same = some_is u v (sym is_u ∙ is_v) in (ap (λ (s : SpotPlan). s.node.0) same, ap (λ (s : SpotPlan). s.number) same))))
     ]);
     apart = λ j k f g x y at_f at_g is_x is_y same. (elim (last_or firsts n f j at_f) [
       | inl l ↦ elim (last_or firsts n g k at_g) [

@@ -63,17 +63,17 @@ same_slots w p n set xs ys a b = same_by (λ (t : Slot). t.cycle) xs ys a.order 
 
 found_again : (w : ArrayMade) → IsArray w → (at : SpotMade) → IsSpot w at → spot_by w (plan_of at) ≡ at
 found_again w is at spot =
-    let low = in_range (cells_of w) at.cell spot.cell spot.is_cell in
+    let low = in_range (cells_of w) at.cell.0 spot.cell spot.is_cell in
     let many = is.layout.one_each in
-    let all = there_is w.layout.slots at.cell (omega (arith, low, many)) in
+    let all = there_is w.layout.slots at.cell.0 (omega (arith, low, many)) in
     let set = at.piece.now.domain in
     let passes = λ (t : Slot). has set t.point in
-    let own = subst (λ (n : ℕ). AreSlotsIn w at.cell n set (filter passes all.0)) spot.node (some_slots w at.cell spot.cell set all.0 spot.is_cell (is.layout.are_slots at.cell all.0 all.1)) in
-    let same : filter passes (slots_by (slice_get w.layout.slots at.cell)) ≡ at.slots = ap (λ l. filter passes (slots_by l)) all.1 ∙ same_slots w at.cell at.node set (filter passes all.0) at.slots own spot.are_slots in
+    let own = subst (λ (n : ℕ). AreSlotsIn w at.cell.0 n set (filter passes all.0)) spot.node (some_slots w at.cell.0 spot.cell set all.0 spot.is_cell (is.layout.are_slots at.cell.0 all.0 all.1)) in
+    let same : filter passes (slots_by (slice_get w.layout.slots at.cell.0)) ≡ at.slots = ap (λ l. filter passes (slots_by l)) all.1 ∙ same_slots w at.cell.0 at.node.0 set (filter passes all.0) at.slots own spot.are_slots in
     ap (λ (l : List Slot). record { cell = at.cell; node = at.node; place = at.place; var = at.var; number = at.number; piece = at.piece; slots = l }) same
 
-pub spots_again : (w : ArrayMade) → IsArray w → (p : ℕ) (spots : List SpotMade) → All (λ (at : SpotMade). (at.cell ≡ p) × (0 < length at.slots) × IsSpot w at) spots → map (spot_by w) (map plan_of spots) ≡ spots
+pub spots_again : (w : ArrayMade) → IsArray w → (p : ℕ) (spots : List SpotMade) → All (λ (at : SpotMade). (at.cell.0 ≡ p) × (0 < length at.slots) × IsSpot w at) spots → map (spot_by w) (map plan_of spots) ≡ spots
 spots_again w is p [] each = refl
 spots_again w is p (at ∷ spots) each =
-    let P = λ (at : SpotMade). (at.cell ≡ p) × (0 < length at.slots) × IsSpot w at in
+    let P = λ (at : SpotMade). (at.cell.0 ≡ p) × (0 < length at.slots) × IsSpot w at in
     ap₂ (λ (x : SpotMade) (xs : List SpotMade). x ∷ xs) (found_again w is at (All-head P at spots each).2) (spots_again w is p spots (All-tail P at spots each))

@@ -24,19 +24,19 @@ use Rattle.av_build.proofs.HelpersOn.{helper_of_place}
 
 module _ (b : Blueprint) (is : IsBlueprint b) (at : SpotMade) (sites : List Site) (on : IsSpotOn b at sites) where
   pub some_slots : 0 < length at.slots
-  some_slots = (spot_at b.array is.array at.cell on.plan.pieces (is.plans.pieces at.cell on.plan on.is_plan) on.number at on.is_spot).1
+  some_slots = (spot_at b.array is.array at.cell.0 on.plan.pieces (is.plans.pieces at.cell.0 on.plan on.is_plan) on.number at on.is_spot).1
 
   pub spot_there : IsSpot b.array at
-  spot_there = (spot_at b.array is.array at.cell on.plan.pieces (is.plans.pieces at.cell on.plan on.is_plan) on.number at on.is_spot).2
+  spot_there = (spot_at b.array is.array at.cell.0 on.plan.pieces (is.plans.pieces at.cell.0 on.plan on.is_plan) on.number at on.is_spot).2
 
   pub sites_there : AreSites b.array at sites
-  sites_there = (is.plans.pieces at.cell on.plan on.is_plan).sites on.number at sites on.is_spot on.are_sites
+  sites_there = (is.plans.pieces at.cell.0 on.plan on.is_plan).sites on.number at sites on.is_spot on.are_sites
 
   pub site_at : (i : ℕ) (place : Site) → slice_get sites i ≡ Some place → IsSiteOf b.array at place
   site_at i place e = at_index (IsSiteOf b.array at) sites sites_there.each i place e
 
   -- the helper of a place is one of the cell's
-  pub helper_on : (i : ℕ) (place : Site) → slice_get sites i ≡ Some place → (h : Pipeline) → place.pipeline ≡ Some h → HasHelper b at.cell h.number
+  pub helper_on : (i : ℕ) (place : Site) → slice_get sites i ≡ Some place → (h : Pipeline) → place.pipeline ≡ Some h → HasHelper b at.cell.0 h.number
   helper_on i place e h pipeline =
       let found = helper_of_place on.plan.pieces on.number sites on.are_sites i place e h pipeline in
       record { plan = on.plan; is_plan = on.is_plan; index = found.0; helper = record { number = h.number; piece = on.number; site = i }; is_helper = found.1; number = refl }
@@ -45,9 +45,9 @@ module _ (b : Blueprint) (is : IsBlueprint b) (at : SpotMade) (sites : List Site
   pub spot_within : (counter : Counter) → IsCounted b.array counter → AreWithin (number_count counter) at.slots
   spot_within counter counted = λ j k s t is_s is_t.
       let own = spot_there.are_slots.each in
-      let x = at_index (IsSlotIn b.array at.cell at.node at.piece.now.domain) at.slots own j s is_s in
-      let y = at_index (IsSlotIn b.array at.cell at.node at.piece.now.domain) at.slots own k t is_t in
-      counted.within at.cell s.cycle t.cycle at.node at.node s.point t.point x.computes y.computes
+      let x = at_index (IsSlotIn b.array at.cell.0 at.node.0 at.piece.now.domain) at.slots own j s is_s in
+      let y = at_index (IsSlotIn b.array at.cell.0 at.node.0 at.piece.now.domain) at.slots own k t is_t in
+      counted.within at.cell.0 s.cycle t.cycle at.node.0 at.node.0 s.point t.point x.computes y.computes
 
 -- nor are all computations of a cell
 pub cell_within : (b : Blueprint) (counter : Counter) → IsCounted b.array counter → (p : ℕ) (slots : List Slot) → AreSlots (system_of b.array) (placings_of b.array) (cells_of b.array) p slots → AreWithin (number_count counter) slots
@@ -62,7 +62,7 @@ module _ (b : Blueprint) (is : IsBlueprint b) (at : SpotMade) (spot : IsSpot b.a
   by_tree : (t : Tree) → view mine.place.tree ≡ t → HasVariable (system_of b.array) t
   by_tree (reference place m) e =
       let slot = there_is at.slots 0 some in
-      let on = at_index (IsSlotIn b.array at.cell at.node at.piece.now.domain) at.slots spot.are_slots.each 0 slot.0 slot.1 in
+      let on = at_index (IsSlotIn b.array at.cell.0 at.node.0 at.piece.now.domain) at.slots spot.are_slots.each 0 slot.0 slot.1 in
       let y : Point = image m.rows slot.0.point in
       let read = declared_read b.array is.array at spot mine placed slot.0 on place y (subst (λ (u : Tree). IsReadBy u slot.0.point place y) (sym e) (refl, refl)) in
       (read.variable, read.is)

@@ -43,29 +43,29 @@ module _ (b : Blueprint) (is : IsBlueprint b) (counter : Counter) (counted : IsC
   are : AreSpots w p spots
   are = (is.plans.pieces p plan is_plan).spots
 
-  spot_at : (i : ℕ) (at : SpotMade) → slice_get spots i ≡ Some at → (at.cell ≡ p) × (0 < length at.slots) × IsSpot w at
-  spot_at i at e = at_index (λ (at : SpotMade). (at.cell ≡ p) × (0 < length at.slots) × IsSpot w at) spots are.each i at e
+  spot_at : (i : ℕ) (at : SpotMade) → slice_get spots i ≡ Some at → (at.cell.0 ≡ p) × (0 < length at.slots) × IsSpot w at
+  spot_at i at e = at_index (λ (at : SpotMade). (at.cell.0 ≡ p) × (0 < length at.slots) × IsSpot w at) spots are.each i at e
 
   -- on a cell that computes the node n
   module _ (c n : ℕ) (z : Point) (v : Variable) (computes : ComputesIn w p c n z) (is_variable : slice_get (nodes (system_of w)) n ≡ Some v) where
     abbrev spot : ℕ → Piece → Spot
     spot k piece = record { cell = p; node = n; variable = v; number = k; piece = piece }
 
-    node_is : (at : SpotMade) → at.cell ≡ p → IsSpot w at → at.node ≡ n
+    node_is : (at : SpotMade) → at.cell.0 ≡ p → IsSpot w at → at.node.0 ≡ n
     node_is at e s = computed_node w p at e s c n z computes
 
-    variable_is : (at : SpotMade) → at.cell ≡ p → IsSpot w at → view_variable at.var.now ≡ v
+    variable_is : (at : SpotMade) → at.cell.0 ≡ p → IsSpot w at → view_variable at.var.now ≡ v
     variable_is at e s = computed_variable w p at e s c n z computes v is_variable
 
     -- each piece is one of the node's variable
-    spot_is : (at : SpotMade) → at.cell ≡ p → IsSpot w at → spot_of at ≡ spot at.number (view_piece at.piece.now)
+    spot_is : (at : SpotMade) → at.cell.0 ≡ p → IsSpot w at → spot_of at ≡ spot at.number (view_piece at.piece.now)
     spot_is at e s =
         let piece = view_piece at.piece.now in
-        ap (λ (k : ℕ). record { cell = k; node = at.node; variable = view_variable at.var.now; number = at.number; piece = piece }) e
+        ap (λ (k : ℕ). record { cell = k; node = at.node.0; variable = view_variable at.var.now; number = at.number; piece = piece }) e
         ∙ ap (λ (k : ℕ). record { cell = p; node = k; variable = view_variable at.var.now; number = at.number; piece = piece }) (node_is at e s)
         ∙ ap (λ (u : Variable). record { cell = p; node = n; variable = u; number = at.number; piece = piece }) (variable_is at e s)
 
-    of_variable : (at : SpotMade) → at.cell ≡ p → IsSpot w at → slice_get v.pieces at.number ≡ Some (view_piece at.piece.now)
+    of_variable : (at : SpotMade) → at.cell.0 ≡ p → IsSpot w at → slice_get v.pieces at.number ≡ Some (view_piece at.piece.now)
     of_variable at e s = subst (λ (u : Variable). slice_get u.pieces at.number ≡ Some (view_piece at.piece.now)) (variable_is at e s) s.is_piece
 
     once : (i j k : ℕ) → slice_get (map (λ (at : SpotMade). at.number) spots) i ≡ Some k → slice_get (map (λ (at : SpotMade). at.number) spots) j ≡ Some k → i ≡ j
@@ -98,9 +98,9 @@ module _ (b : Blueprint) (is : IsBlueprint b) (counter : Counter) (counted : IsC
         let at = from_map (λ (at : SpotMade). at.number) spots i k e in
         let s = spot_at i at.0 at.1 in
         let t = there_is at.0.slots 0 s.1 in
-        let on = at_index (IsSlotIn w at.0.cell at.0.node at.0.piece.now.domain) at.0.slots s.2.are_slots.each 0 t.0 t.1 in
+        let on = at_index (IsSlotIn w at.0.cell.0 at.0.node.0 at.0.piece.now.domain) at.0.slots s.2.are_slots.each 0 t.0 t.1 in
         let same : view_piece at.0.piece.now ≡ piece = some_is (view_piece at.0.piece.now) piece (sym (of_variable at.0 s.0 s.2) ∙ ap (λ (j : ℕ). slice_get v.pieces j) at.2 ∙ f) in
-        let here = subst (λ (q : ℕ). ComputesIn w q t.0.cycle at.0.node t.0.point) s.0 on.computes in
+        let here = subst (λ (q : ℕ). ComputesIn w q t.0.cycle at.0.node.0 t.0.point) s.0 on.computes in
         (t.0.cycle, t.0.point, subst (λ (m : ℕ). ComputesIn w p t.0.cycle m t.0.point) (node_is at.0 s.0 s.2) here, subst (λ (q : Piece). IsTrue (has q.domain t.0.point)) same on.within)
 
     module _ (modes : List Mode) (many : length modes ≡ length spots) (each : (k : ℕ) (mode : Mode) → slice_get modes k ≡ Some mode → IsValueMode b counter p k mode) where

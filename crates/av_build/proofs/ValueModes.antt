@@ -32,7 +32,7 @@ use Rattle.av_build.proofs.Pairwise.{one_longer}
 use Rattle.av_build.proofs.SpotNodes.{computed_node}
 
 module _ (b : Blueprint) (is : IsBlueprint b) (p : ℕ) (plan : CellPlan) (is_plan : slice_get b.cells p ≡ Some plan) (k : ℕ) (at : SpotMade) (is_at : slice_get (spots_on b.array plan.pieces) k ≡ Some at) where
-  here : (at.cell ≡ p) × (0 < length at.slots) × IsSpot b.array at
+  here : (at.cell.0 ≡ p) × (0 < length at.slots) × IsSpot b.array at
   here = spot_at b.array is.array p plan.pieces (is.plans.pieces p plan is_plan) k at is_at
 
   pub is_on : (sites : List Site) → slice_get plan.pieces.sites k ≡ Some sites → IsSpotOn b at sites
@@ -42,7 +42,7 @@ module _ (b : Blueprint) (is : IsBlueprint b) (p : ℕ) (plan : CellPlan) (is_pl
   cell_is = ap (λ (q : ℕ). slice_get (cells_of b.array) q) (sym here.0) ∙ here.2.is_cell
 
   -- the cell has one node
-  node_is : (c n : ℕ) (z : Point) → ComputesIn b.array p c n z → n ≡ at.node
+  node_is : (c n : ℕ) (z : Point) → ComputesIn b.array p c n z → n ≡ at.node.0
   node_is c n z computes = sym (computed_node b.array p at here.0 here.2 c n z computes)
 
   module _ (slots : List Slot) (are : AreSlots (system_of b.array) (placings_of b.array) (cells_of b.array) p slots) where
@@ -52,16 +52,16 @@ module _ (b : Blueprint) (is : IsBlueprint b) (p : ℕ) (plan : CellPlan) (is_pl
         (record { cell = here.2.cell; is_cell = cell_is; is_variable = ap (λ (n : ℕ). slice_get (nodes (system_of b.array)) n) here.2.node ∙ here.2.is_variable; are_slots = are }) at.number (view_piece at.piece.now) here.2.is_piece
 
     pub piece_mode : (count : ℕ → ℕ) (order : List ℕ) → IsInOrder count slots order → (marks : List CounterMark) → AreMarks count slots order (λ (t : Slot). IsTrue (has at.piece.now.domain t.point)) (length order) marks → (work : Work)
-        → IsModeFor (seen b.array) count p (λ m z. m ≡ at.node) (λ m z. IsTrue (has at.piece.now.domain z)) (record { windows = windows_by marks; work = work })
+        → IsModeFor (seen b.array) count p (λ m z. m ≡ at.node.0) (λ m z. IsTrue (has at.piece.now.domain z)) (record { windows = windows_by marks; work = work })
     piece_mode count order in_order marks told work =
-        mode_for (seen b.array) count p slots order in_order (λ m z. m ≡ at.node) (λ m z. IsTrue (has at.piece.now.domain z)) (λ (t : Slot). IsTrue (has at.piece.now.domain t.point)) each all (λ c n z computes read. ((λ x. x), (λ x. x))) marks told work
+        mode_for (seen b.array) count p slots order in_order (λ m z. m ≡ at.node.0) (λ m z. IsTrue (has at.piece.now.domain z)) (λ (t : Slot). IsTrue (has at.piece.now.domain t.point)) each all (λ c n z computes read. ((λ x. x), (λ x. x))) marks told work
       where
-        each : (i : ℕ) (slot : Slot) → slice_get slots i ≡ Some slot → (n : ℕ) × ComputesIn b.array p slot.cycle n slot.point × (n ≡ at.node)
+        each : (i : ℕ) (slot : Slot) → slice_get slots i ≡ Some slot → (n : ℕ) × ComputesIn b.array p slot.cycle n slot.point × (n ≡ at.node.0)
         each i slot e =
             let x = at_index (IsSlot (system_of b.array) (placings_of b.array) (cells_of b.array) p) slots are.each i slot e in
             (x.node, x.computes, node_is slot.cycle x.node slot.point x.computes)
 
-        all : (c n : ℕ) (z : Point) → ComputesIn b.array p c n z → n ≡ at.node → (i : ℕ) × (slice_get slots i ≡ Some (record { cycle = c; point = z }))
+        all : (c n : ℕ) (z : Point) → ComputesIn b.array p c n z → n ≡ at.node.0 → (i : ℕ) × (slice_get slots i ≡ Some (record { cycle = c; point = z }))
         all c n z computes e = place_in slots (record { cycle = c; point = z }) (are.all c n z computes)
 
 -- ---- the modes of a cell's pieces, one after another

@@ -104,7 +104,7 @@ not_piped lanes p (Some g) (pick place choices n) site h = tt
 -- ---- a place of a piece on a cell
 
 module _ (b : Blueprint) (is : IsBlueprint b) (counter : Counter) (at : SpotMade) (spot : IsSpot b.array at) (mine : Site) (placed : IsSiteOf b.array at mine)
-    (plan : CellPlan) (is_plan : slice_get b.cells at.cell ≡ Some plan) where
+    (plan : CellPlan) (is_plan : slice_get b.cells at.cell.0 ≡ Some plan) where
   abbrev w : ArrayMade
   w = b.array
 
@@ -121,44 +121,44 @@ module _ (b : Blueprint) (is : IsBlueprint b) (counter : Counter) (at : SpotMade
   Right z c source = IsPlaceSource (seen w) lanes (spot_of at) z c p.site p.tree source
 
   abbrev here : Option Pipeline
-  here = helper_at (helpers_of w) (node_place s at.node) at.number p.site
+  here = helper_at (helpers_of w) (node_place s at.node.0) at.number p.site
 
-  here_is : here ≡ helper_at (helpers_of w) at.place p.piece p.site
+  here_is : here ≡ helper_at (helpers_of w) at.place.0 p.piece p.site
   here_is =
       let piece_is = (place_read at.number (view at.piece.now.tree) p placed.is_place).piece_is in
-      ap (λ (n : ℕ). helper_at (helpers_of w) n at.number p.site) (sym spot.place) ∙ ap (λ (k : ℕ). helper_at (helpers_of w) at.place k p.site) (sym piece_is)
+      ap (λ (n : ℕ). helper_at (helpers_of w) n at.number p.site) (sym spot.place) ∙ ap (λ (k : ℕ). helper_at (helpers_of w) at.place.0 k p.site) (sym piece_is)
 
   -- from the moments of a place without a helper
   pub plain_site : mine.pipeline ≡ None → (order : List ℕ) → IsInOrder (count_in counter) at.slots order → (moments : List Moment) → AreMoments (count_in counter) at.slots order Always Right moments
       → (inlet : Inlet) → inlet ≡ inlet_by s (λ j. j) None p.tree → (width : Width) → width.bits ≡ read_width s (view_variable at.var.now).width None p.tree
       → (site : ProgramSite) → site ≡ site_by inlet width moments → IsPlaceSite (seen w) (count_in counter) lanes plan.lanes.first (spot_of at) p.site p.tree site
   plain_site none order in_order moments are inlet inlet_is width width_is site site_is =
-      let unhelped : IsUnhelped here p.tree = λ place m e. (here_is ∙ sym (ap (pipeline_by (helpers_of w) at.place p) e) ∙ sym placed.pipeline ∙ none) in
+      let unhelped : IsUnhelped here p.tree = λ place m e. (here_is ∙ sym (ap (pipeline_by (helpers_of w) at.place.0 p) e) ∙ sym placed.pipeline ∙ none) in
       record {
-        inlet = ap (λ (x : ProgramSite). x.inlet) site_is ∙ site_inlet inlet width moments ∙ inlet_is ∙ inlet_same s (pipe_in lanes at.cell plan.lanes.first) here p.tree unhelped;
+        inlet = ap (λ (x : ProgramSite). x.inlet) site_is ∙ site_inlet inlet width moments ∙ inlet_is ∙ inlet_same s (pipe_in lanes at.cell.0 plan.lanes.first) here p.tree unhelped;
         width = ap (λ (x : ProgramSite). x.width.bits) site_is ∙ ap (λ (x : Width). x.bits) (site_width inlet width moments) ∙ width_is ∙ width_same s (view_variable at.var.now).width here p.tree unhelped;
-        piped = not_piped lanes at.cell here p.tree site unhelped;
+        piped = not_piped lanes at.cell.0 here p.tree site unhelped;
         reads = subst (IsSiteFor (seen w) (count_in counter) (spot_of at) Always Right) (sym site_is) (site_for (seen w) (count_in counter) (spot_of at) at.slots (spot_slots w at spot) order in_order Always Right inlet width moments are);
       }
 
   -- from the lane of its helper on the cell
   pub piped_site : 0 < length at.slots → (h : Pipeline) → mine.pipeline ≡ Some h → (site : ProgramSite) → IsPipeSite b (spot_of at) h.number site → IsPlaceSite (seen w) (count_in counter) lanes plan.lanes.first (spot_of at) p.site p.tree site
   piped_site some h pipeline site pipe =
-      let r = by_tree (helpers_of w) at.place p p.tree h refl (sym placed.pipeline ∙ pipeline) in
+      let r = by_tree (helpers_of w) at.place.0 p p.tree h refl (sym placed.pipeline ∙ pipeline) in
       let read = r.0 in
       let helped : here ≡ Some h = here_is ∙ r.1 in
       let first = there_is at.slots 0 some in
-      let on = at_index (IsSlotIn w at.cell at.node at.piece.now.domain) at.slots spot.are_slots.each 0 first.0 first.1 in
+      let on = at_index (IsSlotIn w at.cell.0 at.node.0 at.piece.now.domain) at.slots spot.are_slots.each 0 first.0 first.1 in
       record {
-        inlet = pipe.inlet plan is_plan ∙ sym (ap₂ (λ (o : Option Pipeline) (u : Tree). inlet_by s (pipe_in lanes at.cell plan.lanes.first) o u) helped read.tree);
+        inlet = pipe.inlet plan is_plan ∙ sym (ap₂ (λ (o : Option Pipeline) (u : Tree). inlet_by s (pipe_in lanes at.cell.0 plan.lanes.first) o u) helped read.tree);
         width = pipe.width ∙ sym (ap₂ (λ (o : Option Pipeline) (u : Tree). read_width s (view_variable at.var.now).width o u) helped read.tree);
-        piped = subst (λ (o : Option Pipeline). IsPiped lanes at.cell o p.tree site) (sym helped) (subst (λ (u : Tree). IsPiped lanes at.cell (Some h) u site) (sym read.tree) (pipe.selections, pipe.otherwise));
+        piped = subst (λ (o : Option Pipeline). IsPiped lanes at.cell.0 o p.tree site) (sym helped) (subst (λ (u : Tree). IsPiped lanes at.cell.0 (Some h) u site) (sym read.tree) (pipe.selections, pipe.otherwise));
         reads = record {
           each = (
             subst (AllByRecursion (λ (l : Selection). (l.source ≡ Word 0) ⊎ IsRight (seen w) (spot_of at) Always Right l.source)) (sym pipe.selections) tt,
             inr (first.0.cycle, first.0.point, on.computes, on.within, tt, source first.0.cycle first.0.point),
           );
-          lasts = subst (AllByRecursion (λ (l : Selection). (c : ℕ) × (z : Point) × ComputesIn w at.cell c at.node z × (l.last ≡ count_in counter c))) (sym pipe.selections) tt;
+          lasts = subst (AllByRecursion (λ (l : Selection). (c : ℕ) × (z : Point) × ComputesIn w at.cell.0 c at.node.0 z × (l.last ≡ count_in counter c))) (sym pipe.selections) tt;
           all = λ c z computes inside always. subst (λ (l : List Selection). Right z c (source_by (count_in counter c) site.otherwise l)) (sym pipe.selections) (source c z);
         };
       }

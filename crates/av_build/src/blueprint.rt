@@ -7,7 +7,7 @@ ghost use Rattle.av_build.specs.inner.Blueprints.{is_of_helper, ArePieces, AddsH
 use crate::spots::{SpotPlan, spot_plans};
 use av_base::{List, Memory};
 use av_kinds::CellLanes;
-use av_space::{Array, Site};
+use av_space::{Array, CellNumber, Site};
 use std::alloc::Global;
 
 /// A helper on a cell: its number, and the piece on the cell and the place of the piece whose reference it moves.
@@ -21,14 +21,14 @@ pub(crate) struct HelperPlan {
 /// A helper on a cell, by its number.
 #[derive(Clone, Copy)]
 pub(crate) struct HelperOn {
-    pub(crate) cell: usize,
+    pub(crate) cell: CellNumber,
     pub(crate) helper: usize,
 }
 
 /// A lane of a cell: that of its value, or of the word of a helper.
 #[derive(Clone, Copy, Debug)]
 pub(crate) struct LanePlan {
-    pub(crate) cell: usize,
+    pub(crate) cell: CellNumber,
     pub(crate) helper: Option<HelperPlan>,
 }
 
@@ -68,20 +68,20 @@ impl Blueprint<'_> {
     ghost use Rattle.av_build.specs.inner.Blueprints.{lanes_of, HasHelper};
 
     /// The lane of a cell's value.
-    pub(crate) fn value_lane(&self, cell: usize) -> usize
-        requires { cell < length self.now.cells }
-        ensures { result ≡ (lanes_of self.now.cells).of_value cell }
+    pub(crate) fn value_lane(&self, cell: CellNumber) -> usize
+        requires { cell.0 < length self.now.cells }
+        ensures { result ≡ (lanes_of self.now.cells).of_value cell.0 }
     {
-        self.cells.as_slice()[cell].lanes.value
+        self.cells.as_slice()[cell.0 as usize].lanes.value
     }
 
     /// The lane of a helper's word on a cell.
     pub(crate) fn helper_lane(&self, on: HelperOn) -> usize
         requires blueprint { IsBlueprint self.now }
-        requires helper { HasHelper self.now on.cell on.helper }
-        ensures { result ≡ (lanes_of self.now.cells).of_helper on.helper on.cell }
+        requires helper { HasHelper self.now on.cell.0 on.helper }
+        ensures { result ≡ (lanes_of self.now.cells).of_helper on.helper on.cell.0 }
     {
-        let own = self.cells.as_slice()[on.cell].lanes;
+        let own = self.cells.as_slice()[on.cell.0 as usize].lanes;
         let lanes = self.lanes.as_slice();
         for number in own.first..own.value {
             if is_helper(&lanes[number], on.helper) {
@@ -93,10 +93,10 @@ impl Blueprint<'_> {
 }
 
 // The pieces on a cell.
-fn pieces_on<'a>(alloc: Global, array: &Array<'a>, cell: usize) -> Result<Pieces<'a>, Memory>
+fn pieces_on<'a>(alloc: Global, array: &Array<'a>, cell: CellNumber) -> Result<Pieces<'a>, Memory>
     requires array { IsArray array.now }
-    requires cell { cell < length (cells_of array.now) }
-    ensures { IfOk result (ArePieces array.now cell) }
+    requires cell { cell.0 < length (cells_of array.now) }
+    ensures { IfOk result (ArePieces array.now cell.0) }
 {
     let spots = array.spots(alloc, cell)?;
     let mut sites = List::new(alloc);
@@ -148,16 +148,16 @@ fn helpers(alloc: Global, pieces: &Pieces<'_>) -> Result<List<HelperPlan>, Memor
 fn add_cell<'a>(
     alloc: Global,
     array: &Array<'a>,
-    cell: usize,
+    cell: CellNumber,
     lanes: &mut List<LanePlan>,
 ) -> Result<CellPlan<'a>, Memory>
     requires array { IsArray array.now }
-    requires cell { cell < length (cells_of array.now) }
-    ensures pieces { IfOk result (λ plan. ArePieces array.now cell plan.pieces) }
+    requires cell { cell.0 < length (cells_of array.now) }
+    ensures pieces { IfOk result (λ plan. ArePieces array.now cell.0 plan.pieces) }
     ensures first { IfOk result (λ plan. plan.lanes.first ≡ length lanes.old) }
     ensures value { IfOk result (λ plan.
         plan.lanes.value ≡ length lanes.old + length (helpers_on plan.pieces)) }
-    ensures lanes { IfOk result (λ plan. lanes.new ≡ lanes.old ++ own_lanes cell plan.pieces) }
+    ensures lanes { IfOk result (λ plan. lanes.new ≡ lanes.old ++ own_lanes cell.0 plan.pieces) }
 {
     let pieces = pieces_on(alloc, array, cell)?;
     let helpers = helpers(alloc, &pieces)?;
@@ -190,7 +190,7 @@ fn cell_plans<'a>(
 {
     let mut cells = List::new(alloc);
     for cell in 0..count {
-        cells.push(add_cell(alloc, array, cell, lanes)?)?;
+        cells.push(add_cell(alloc, array, CellNumber(cell as u32), lanes)?)?;
     }
     Ok(cells)
 }

@@ -103,7 +103,7 @@ impl Blueprint<'_> {
         requires spot { IsSpot self.now.array spot.now }
         requires site { IsSiteOf self.now.array spot.now site.now }
         requires slot { IsSlotIn self.now.array
-            spot.now.cell spot.now.node spot.now.piece.now.domain slot.now }
+            spot.now.cell.0 spot.now.node.0 spot.now.piece.now.domain slot.now }
         requires entered { IsReadAt site.now.pipeline
             (view_piece spot.now.piece.now) slot.now.point }
         ensures { IsOwnSource (seen self.now.array) (lanes_of self.now.cells)
@@ -113,7 +113,7 @@ impl Blueprint<'_> {
         match self.array.origin(spot, site, slot) {
             Origin::Port(port) => WordSource::Input(port),
             Origin::Value { cell, delay } => WordSource::Line {
-                lane: self.value_lane(cell as usize),
+                lane: self.value_lane(cell),
                 delay,
             },
             Origin::Number(word) => WordSource::Word(word.bits),
@@ -154,13 +154,13 @@ impl Blueprint<'_> {
     // Where the helper's word at the point before is read.
     fn handed_source(&self, pipeline: &Pipeline, reading: TapReading) -> WordSource
         requires blueprint { IsBlueprint self.now }
-        requires lane { HasHelper self.now reading.producer pipeline.now.number }
+        requires lane { HasHelper self.now reading.producer.0 pipeline.now.number }
         ensures { result ≡ Line ((lanes_of self.now.cells).of_helper
-            pipeline.now.number reading.producer) reading.delay }
+            pipeline.now.number reading.producer.0) reading.delay }
     {
         WordSource::Line {
             lane: self.helper_lane(HelperOn {
-                cell: reading.producer as usize,
+                cell: reading.producer,
                 helper: pipeline.number,
             }),
             delay: reading.delay,
@@ -182,7 +182,7 @@ impl Blueprint<'_> {
         requires site { IsSiteOf self.now.array spot.now site.now }
         requires pipeline { site.now.pipeline ≡ Some pipeline.now }
         requires slot { IsSlotIn self.now.array
-            spot.now.cell spot.now.node spot.now.piece.now.domain slot.now }
+            spot.now.cell.0 spot.now.node.0 spot.now.piece.now.domain slot.now }
         ensures { OnOk result (AddsPipelineMoment (seen self.now.array)
             (lanes_of self.now.cells) (spot_of spot.now) site.now.place.site pipeline.now
             (view site.now.place.tree) slot.now number moments.old moments.new) }

@@ -21,7 +21,7 @@ use crate::windows::{CounterMark, windows};
 use av_base::{List, Memory, Width};
 use av_flat::{Flat, Tree};
 use av_kinds::{Counter, Inlet, Lane, Mode, ProgramSite, Work};
-use av_space::Spot;
+use av_space::{CellNumber, Spot};
 use std::alloc::Global;
 
 // The list of one site.
@@ -144,7 +144,7 @@ impl<'a> Blueprint<'a> {
         ensures { IfOk result (λ modes.
             AreHelperModes self.now counter spot.now helper (map mode_of modes)) }
     {
-        let pieces = &self.cells.as_slice()[spot.cell].pieces;
+        let pieces = &self.cells.as_slice()[spot.cell.0 as usize].pieces;
         let place = &pieces.sites.as_slice()[helper.piece].as_slice()[helper.site];
         let Some(pipeline) = &place.pipeline else {
             unreachable!();
@@ -161,20 +161,23 @@ impl<'a> Blueprint<'a> {
         &self,
         alloc: Global,
         counter: Counter,
-        cell: usize,
+        cell: CellNumber,
         helper: HelperPlan,
     ) -> Result<Lane<'a>, Memory>
         requires blueprint { IsBlueprint self.now }
         requires counter { IsCounted self.now.array counter }
-        requires helper { HasPlan self.now cell helper }
+        requires helper { HasPlan self.now cell.0 helper }
         requires ranks { length (helpers_of self.now.array) < 18446744073709551615 }
         ensures { IfOk result (λ lane.
-            IsBuiltBy self.now counter cell (Some helper) (lane_of lane)) }
+            IsBuiltBy self.now counter cell.0 (Some helper) (lane_of lane)) }
     {
-        let plan = &self.cells.as_slice()[cell].pieces.spots.as_slice()[helper.piece];
+        let plan = &self.cells.as_slice()[cell.0 as usize]
+            .pieces
+            .spots
+            .as_slice()[helper.piece];
         let spot = planned_spot(alloc, &self.array, plan)?;
         Ok(Lane {
-            home: cell as u32,
+            home: cell.0,
             rank: helper.number + 1,
             width: spot.var.width,
             modes: self.pipeline_modes(alloc, counter, &spot, helper)?,

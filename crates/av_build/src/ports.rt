@@ -11,7 +11,7 @@ ghost use Rattle.av_build.specs.inner.Programmed.{inlet_by};
 use crate::blueprint::{Blueprint, Pieces};
 use av_base::{List, Memory, Width};
 use av_depend::is_computed_at;
-use av_flat::{Flat, Tree};
+use av_flat::{Flat, SiteNumber, Tree, VariablePlace};
 use av_kinds::Inlet;
 use av_space::{InPort, Site};
 use std::alloc::Global;
@@ -33,7 +33,7 @@ pub(crate) fn inlet_of(flat: &Flat, tree: &Tree) -> Inlet
 {
     match tree {
         Tree::Ref { var, .. } => {
-            if is_computed_at(flat, *var) {
+            if is_computed_at(flat, VariablePlace(*var)) {
                 Inlet::Taps
             } else {
                 Inlet::Inputs
@@ -44,19 +44,19 @@ pub(crate) fn inlet_of(flat: &Flat, tree: &Tree) -> Inlet
 }
 
 // Whether the place is the reference with this number.
-fn is_reference(site: &Site<'_>, number: usize) -> bool
-    ensures { result ≡ is_reference_at number site.now.place.site (view site.now.place.tree) }
+fn is_reference(site: &Site<'_>, number: SiteNumber) -> bool
+    ensures { result ≡ is_reference_at number.0 site.now.place.site (view site.now.place.tree) }
 {
     match site.place.tree {
-        Tree::Ref { .. } => site.place.site as usize == number,
+        Tree::Ref { .. } => site.place.site.0 == number.0,
         _ => false,
     }
 }
 
 // The reference with this number, among the places of a piece.
-fn reference_at<'a, 'b>(sites: &'b [Site<'a>], number: usize) -> &'b Site<'a>
-    requires { HasReference sites.now number }
-    ensures { IsReferenceIn sites.now number result.now }
+fn reference_at<'a, 'b>(sites: &'b [Site<'a>], number: SiteNumber) -> &'b Site<'a>
+    requires { HasReference sites.now number.0 }
+    ensures { IsReferenceIn sites.now number.0 result.now }
 {
     for site in sites {
         if is_reference(site, number) {
@@ -76,7 +76,10 @@ fn reference_of<'a, 'b>(pieces: &'b Pieces<'a>, port: &InPort) -> &'b Site<'a>
         if spots[k].number == port.piece as usize {
             // As many references stand before it, so that it is sought from its number on.
             let number = port.site as usize;
-            return reference_at(&pieces.sites.as_slice()[k].as_slice()[number..], number);
+            return reference_at(
+                &pieces.sites.as_slice()[k].as_slice()[number..],
+                SiteNumber(port.site),
+            );
         }
     }
     unreachable!()

@@ -26,13 +26,13 @@ use crate::windows::{marks, windows};
 use av_base::{List, Memory};
 use av_flat::Timed;
 use av_kinds::{CellLanes, Counter, Inlet, Lane, Mode, Program, ProgramSite, WordSource, Work};
-use av_space::{Array, Cells, Layout, Site, Spot};
+use av_space::{Array, CellNumber, Cells, Layout, Site, Spot};
 use std::alloc::Global;
 
 // A piece on a cell, by its number among those there.
 #[derive(Clone, Copy)]
 struct PieceOn {
-    cell: usize,
+    cell: CellNumber,
     number: usize,
 }
 
@@ -40,14 +40,14 @@ impl<'a> Blueprint<'a> {
     // The word of a helper's lane on its own cell.
     fn pipe_site(&self, alloc: Global, spot: &Spot<'a>, helper: usize) -> ProgramSite
         requires blueprint { IsBlueprint self.now }
-        requires helper { HasHelper self.now spot.now.cell helper }
+        requires helper { HasHelper self.now spot.now.cell.0 helper }
         ensures { IsPipeSite self.now (spot_of spot.now) helper result }
     {
         let lane = self.helper_lane(HelperOn {
             cell: spot.cell,
             helper,
         });
-        let first = self.cells.as_slice()[spot.cell].lanes.first;
+        let first = self.cells.as_slice()[spot.cell.0 as usize].lanes.first;
         ProgramSite {
             inlet: Inlet::Pipe(lane - first),
             width: spot.var.width,
@@ -115,11 +115,11 @@ impl<'a> Blueprint<'a> {
     fn value_mode(&self, alloc: Global, counter: Counter, on: PieceOn) -> Result<Mode<'a>, Memory>
         requires blueprint { IsBlueprint self.now }
         requires counter { IsCounted self.now.array counter }
-        requires piece { HasPiece self.now on.cell on.number }
+        requires piece { HasPiece self.now on.cell.0 on.number }
         ensures { IfOk result (λ mode.
-            IsValueMode self.now counter on.cell on.number (mode_of mode)) }
+            IsValueMode self.now counter on.cell.0 on.number (mode_of mode)) }
     {
-        let pieces = &self.cells.as_slice()[on.cell].pieces;
+        let pieces = &self.cells.as_slice()[on.cell.0 as usize].pieces;
         let plan = &pieces.spots.as_slice()[on.number];
         let spot = planned_spot(alloc, &self.array, plan)?;
         let places = pieces.sites.as_slice()[on.number].as_slice();
@@ -133,13 +133,16 @@ impl<'a> Blueprint<'a> {
     }
 
     // The lane of the value of a cell: its pieces by their numbers.
-    fn value(&self, alloc: Global, counter: Counter, cell: usize) -> Result<Lane<'a>, Memory>
+    fn value(&self, alloc: Global, counter: Counter, cell: CellNumber) -> Result<Lane<'a>, Memory>
         requires blueprint { IsBlueprint self.now }
         requires counter { IsCounted self.now.array counter }
-        requires cell { cell < length (cells_of self.now.array) }
-        ensures { IfOk result (λ lane. IsBuiltBy self.now counter cell None (lane_of lane)) }
+        requires cell { cell.0 < length (cells_of self.now.array) }
+        ensures { IfOk result (λ lane. IsBuiltBy self.now counter cell.0 None (lane_of lane)) }
     {
-        let spots = self.cells.as_slice()[cell].pieces.spots.as_slice();
+        let spots = self.cells.as_slice()[cell.0 as usize]
+            .pieces
+            .spots
+            .as_slice();
         let width = spots[0].var.width;
         let mut modes = List::new(alloc);
         for number in 0..spots.len() {
@@ -147,7 +150,7 @@ impl<'a> Blueprint<'a> {
             modes.push(self.value_mode(alloc, counter, on)?)?;
         }
         Ok(Lane {
-            home: cell as u32,
+            home: cell.0,
             rank: 0,
             width,
             modes,
@@ -159,10 +162,10 @@ impl<'a> Blueprint<'a> {
     fn lane(&self, alloc: Global, counter: Counter, plan: &LanePlan) -> Result<Lane<'a>, Memory>
         requires blueprint { IsBlueprint self.now }
         requires counter { IsCounted self.now.array counter }
-        requires plan { IsPlanOn self.now plan.now.cell plan.now.helper }
+        requires plan { IsPlanOn self.now plan.now.cell.0 plan.now.helper }
         requires ranks { length (helpers_of self.now.array) < 18446744073709551615 }
         ensures { IfOk result (λ lane.
-            IsBuiltBy self.now counter plan.now.cell plan.now.helper (lane_of lane)) }
+            IsBuiltBy self.now counter plan.now.cell.0 plan.now.helper (lane_of lane)) }
     {
         match plan.helper {
             Some(helper) => self.pipeline(alloc, counter, plan.cell, helper),
@@ -191,7 +194,7 @@ impl<'a> Blueprint<'a> {
     {
         let mut lanes = List::new(alloc);
         for cell in cells {
-            lanes.push(self.value_lane(*cell as usize))?;
+            lanes.push(self.value_lane(CellNumber(*cell)))?;
         }
         Ok(lanes)
     }

@@ -16,7 +16,7 @@ fn same_pieces(a: &[SpotPlan<'_>], b: &[SpotPlan<'_>]) -> bool
         return false;
     }
     for k in 0..a.len() {
-        if a[k].node != b[k].node || a[k].number != b[k].number {
+        if a[k].node.0 != b[k].node.0 || a[k].number != b[k].number {
             return false;
         }
     }

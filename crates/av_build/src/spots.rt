@@ -7,18 +7,17 @@ ghost use Rattle.av_space.specs.Spots.{IsArray, IsSpot};
 ghost use Rattle.av_build.specs.inner.SpotPlans.{plan_of, spot_by};
 
 use av_base::{List, Memory, Point};
-use av_flat::{Piece, Var};
+use av_flat::{Node, Piece, Var, VariablePlace};
 use av_poly::Poly;
-use av_space::{Array, Slot, Spot};
+use av_space::{Array, CellNumber, Slot, Spot};
 use std::alloc::Global;
 
 /// A piece on a cell, as a spot has it, without its computations: those of all cells together are as large as the layout.
 #[derive(Drop)]
 pub(crate) struct SpotPlan<'a> {
-    pub(crate) cell: usize,
-    pub(crate) node: usize,
-    /// Of the variable among all variables.
-    pub(crate) place: usize,
+    pub(crate) cell: CellNumber,
+    pub(crate) node: Node,
+    pub(crate) place: VariablePlace,
     pub(crate) var: &'a Var,
     pub(crate) number: usize,
     pub(crate) piece: &'a Piece,

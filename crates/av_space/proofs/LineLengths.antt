@@ -63,17 +63,17 @@ module _ (s : FlatSystem) (hs : List Helper) (cells : List Cell) (links : List L
   own = line_of s hs cells l
 
   abbrev Length : DelayLine → ℕ
-  Length q = line_length s hs cells links q.cell q.helper
+  Length q = line_length s hs cells links q.cell.0 q.helper
 
   abbrev Longer : DelayLine → ℕ
-  Longer q = line_length s hs cells (links ++ l ∷ []) q.cell q.helper
+  Longer q = line_length s hs cells (links ++ l ∷ []) q.cell.0 q.helper
 
   pub length_more : (q : DelayLine) → Longer q ≡ (if is_line own q then max (Length q) l.delay else Length q)
   length_more q =
       ap (λ (xs : List Link). fold max 0 (map (λ x. x.delay) xs)) (filter-append test links (l ∷ [])) ∙ by (test l) refl
     where
       test : Link → Bool
-      test = reads_line s hs cells q.cell q.helper
+      test = reads_line s hs cells q.cell.0 q.helper
 
       by : (b : Bool) → test l ≡ b → fold max 0 (map (λ (x : Link). x.delay) (filter test links ++ (if b then l ∷ [] else []))) ≡ (if b then max (fold max 0 (map (λ (x : Link). x.delay) (filter test links))) l.delay else fold max 0 (map (λ (x : Link). x.delay) (filter test links)))
       by true e = ap (fold max 0) (map-append (λ (x : Link). x.delay) (filter test links) (l ∷ [])) ∙ fold_push max 0 (map (λ (x : Link). x.delay) (filter test links)) l.delay
@@ -95,8 +95,8 @@ module _ (s : FlatSystem) (hs : List Helper) (cells : List Cell) (links : List L
       more : (a b d : ℕ) → a ≡ b → max a d ≡ a + (d - b)
       more a b d i = omega (arith, i)
 
-  other_cell : (p : ℕ) → (l.producer ≡ p → ⊥) → (line : Option ℕ) → Longer (record { cell = p; helper = line }) ≡ Length (record { cell = p; helper = line })
-  other_cell p ne line = other_line (record { cell = p; helper = line }) (ap (λ b. b && is_same own.helper line) (other_number l.producer p ne))
+  other_cell : (p : ℕ) → (l.producer ≡ p → ⊥) → (line : Option ℕ) → Longer (record { cell = record { 0 = p }; helper = line }) ≡ Length (record { cell = record { 0 = p }; helper = line })
+  other_cell p ne line = other_line (record { cell = record { 0 = p }; helper = line }) (ap (λ b. b && is_same own.helper line) (other_number l.producer p ne))
 
   cell_same : (p : ℕ) → (l.producer ≡ p → ⊥) → cell_length s hs cells (links ++ l ∷ []) p ≡ cell_length s hs cells links p
   cell_same p ne =
@@ -106,16 +106,16 @@ module _ (s : FlatSystem) (hs : List Helper) (cells : List Cell) (links : List L
   cell_more : (line : Option ℕ) → helper_read s hs cells l.consumer l.site ≡ line → IfSome line (λ h. h < length hs) → cell_length s hs cells (links ++ l ∷ []) l.producer ≡ cell_length s hs cells links l.producer + growth
   cell_more None e low =
       let p = l.producer in
-      let one = own_line (record { cell = p; helper = None }) (ap₂ (λ a b. a && b) (same_eq p) (ap (λ o. is_same o None) e)) (ap (λ o. record { cell = p; helper = o }) (sym e)) in
+      let one = own_line (record { cell = record { 0 = p }; helper = None }) (ap₂ (λ a b. a && b) (same_eq p) (ap (λ o. is_same o None) e)) (ap (λ o. record { cell = record { 0 = p }; helper = o }) (sym e)) in
       let rest = same_sum (λ h. line_length s hs cells links p (Some h)) (λ h. line_length s hs cells (links ++ l ∷ []) p (Some h)) 0 (length hs)
-      (λ k b. other_line (record { cell = p; helper = Some k }) (ap₂ (λ a b. a && b) (same_eq p) (ap (λ o. is_same o (Some k)) e))) in
+      (λ k b. other_line (record { cell = record { 0 = p }; helper = Some k }) (ap₂ (λ a b. a && b) (same_eq p) (ap (λ o. is_same o (Some k)) e))) in
       omega (arith, one, rest)
   cell_more (Some a) e low =
       let p = l.producer in
-      let one = other_line (record { cell = p; helper = None }) (ap₂ (λ a b. a && b) (same_eq p) (ap (λ o. is_same o None) e)) in
+      let one = other_line (record { cell = record { 0 = p }; helper = None }) (ap₂ (λ a b. a && b) (same_eq p) (ap (λ o. is_same o None) e)) in
       let rest = more_at (λ h. line_length s hs cells links p (Some h)) (λ h. line_length s hs cells (links ++ l ∷ []) p (Some h)) a growth 0 (length hs) (omega arith) (omega (arith, low))
-      (own_line (record { cell = p; helper = Some a }) (ap₂ (λ a b. a && b) (same_eq p) (ap (λ o. is_same o (Some a)) e ∙ same_eq a)) (ap (λ o. record { cell = p; helper = o }) (sym e)))
-      (λ k ne. other_line (record { cell = p; helper = Some k }) (ap₂ (λ a b. a && b) (same_eq p) (ap (λ o. is_same o (Some k)) e ∙ other_number a k ne))) in
+      (own_line (record { cell = record { 0 = p }; helper = Some a }) (ap₂ (λ a b. a && b) (same_eq p) (ap (λ o. is_same o (Some a)) e ∙ same_eq a)) (ap (λ o. record { cell = record { 0 = p }; helper = o }) (sym e)))
+      (λ k ne. other_line (record { cell = record { 0 = p }; helper = Some k }) (ap₂ (λ a b. a && b) (same_eq p) (ap (λ o. is_same o (Some k)) e ∙ other_number a k ne))) in
       omega (arith, one, rest)
 
   pub count_more : l.producer < length cells → IfSome (helper_read s hs cells l.consumer l.site) (λ h. h < length hs) → delay_count s hs cells (links ++ l ∷ []) ≡ delay_count s hs cells links + growth

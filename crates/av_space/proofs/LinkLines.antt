@@ -64,7 +64,7 @@ one_link_more t legal placings cells links are k d low m n line here delay when 
     let l = get_or links k d in
     let own = line_of s hs cells l in
     let one : take (k + 1) links ≡ take k links ++ l ∷ [] = take_more links k d low in
-    let by_is : by ≡ l.delay - line_length s hs cells (take k links) own.cell own.helper = grown ∙ ap₂ (λ (e : ℕ) (x : DelayLine). e - length_in m x) when here ∙ ap (λ e. l.delay - e) (h own) in (
+    let by_is : by ≡ l.delay - line_length s hs cells (take k links) own.cell.0 own.helper = grown ∙ ap₂ (λ (e : ℕ) (x : DelayLine). e - length_in m x) when here ∙ ap (λ e. l.delay - e) (h own) in (
       one_line_more s hs cells links k d low m n line here delay when h raised,
       ap₂ (λ a b. a + b) counted by_is ∙ sym (link_counted t legal placings cells (take k links) l (are.each k d low)) ∙ ap (delay_count s hs cells) (sym one),
     )

@@ -32,11 +32,11 @@ piece_below s hs placings cells n v is port h e =
     slice_get_within v.pieces port.piece f.piece (ap (λ (w : Variable). slice_get w.pieces port.piece) (sym same) ∙ f.is_piece)
 
 pub site_below : (at : NodePiece) (is : IsNodePiece at) (port : InPort) → IsPort (view_system at.scheduled.now.timed.flat) at.scheduled.now.timed.helpers at.scheduled.now.layout.placements at.scheduled.now.layout.cells port
-    → node_of at.scheduled.now.layout.cells port.cell ≡ Some at.node → port.piece ≡ at.number → port.site < length (references (view_piece at.piece.now).tree)
+    → node_of at.scheduled.now.layout.cells port.cell ≡ Some at.node.0 → port.piece ≡ at.number → port.site < length (references (view_piece at.piece.now).tree)
 site_below at is port h e number =
     let s = view_system at.scheduled.now.timed.flat in
     let f = h.4 in
-    let n = node_of_port s at.scheduled.now.timed.helpers at.scheduled.now.layout.placements at.scheduled.now.layout.cells port h at.node e in
+    let n = node_of_port s at.scheduled.now.timed.helpers at.scheduled.now.layout.placements at.scheduled.now.layout.cells port h at.node.0 e in
     let same : f.variable ≡ is.variable = some_is f.variable is.variable (sym f.is_variable ∙ ap (λ (i : ℕ). slice_get (nodes s) i) n ∙ is.is_variable) in
     let piece : f.piece ≡ view_piece at.piece.now = some_is f.piece (view_piece at.piece.now)
     (sym f.is_piece ∙ ap (λ (i : ℕ). slice_get f.variable.pieces i) number ∙ ap (λ (w : Variable). slice_get w.pieces at.number) same ∙ is.is_piece) in
@@ -48,13 +48,13 @@ pub piece_part : (at : NodePiece) (is : IsNodePiece at) → IsPart at 0 (view_pi
 piece_part at is =
     let s = view_system at.scheduled.now.timed.flat in
     let piece = view_piece at.piece.now in
-    let chained = chained_node at.scheduled.now.timed at.node is.variable is.scheduled.legal is.is_variable in
+    let chained = chained_node at.scheduled.now.timed at.node.0 is.variable is.scheduled.legal is.is_variable in
     let own = all_at (IsChainedPiece (signatures s) is.variable) is.variable.pieces at.number piece chained.pieces is.is_piece in
     whole_part at (subst (λ (n : ℕ). Fits (signatures s) n piece.tree) (sym own.dimension) own.tree.fits) own.tree.rows
 
 -- from one piece to the next
 pub piece_passed : (at : NodePiece) (is : IsNodePiece at) (next : ℕ) (ports : Found) → next ≡ 0 + length (references (view_piece at.piece.now).tree) → ArePortsAt at next at.first ports
-    → ArePortsOf at.scheduled.now at.node (at.number + 1) at.first ports
+    → ArePortsOf at.scheduled.now at.node.0 (at.number + 1) at.first ports
 piece_passed at is next ports e h =
-    next_piece (view_system at.scheduled.now.timed.flat) at.scheduled.now.timed.helpers at.scheduled.now.layout.placements at.scheduled.now.layout.cells at.node at.number next at.first ports is.first
+    next_piece (view_system at.scheduled.now.timed.flat) at.scheduled.now.timed.helpers at.scheduled.now.layout.placements at.scheduled.now.layout.cells at.node.0 at.number next at.first ports is.first
     (λ port p n k. let l = site_below at is port p n k in omega (arith, l, e)) h

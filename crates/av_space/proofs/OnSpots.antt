@@ -44,24 +44,24 @@ some_slots a p cell set slots is_cell all = record {
 -- ---- the pieces with numbers below n
 
 pub record AreSpotsBelow (a : Array) (p n : ℕ) (spots : List Spot) : Type 0 where
-  pub each : All (λ at. (at.cell ≡ p) × (0 < length at.slots) × IsSpot a at) spots
+  pub each : All (λ at. (at.cell.0 ≡ p) × (0 < length at.slots) × IsSpot a at) spots
   pub low : All (λ at. at.number < n) spots
   pub all : (c m : ℕ) (z : Point) (v : Variable) (k : ℕ) (piece : Piece) → ComputesIn a p c m z → slice_get (nodes (system_of a)) m ≡ Some v → slice_get v.pieces k ≡ Some piece → IsTrue (has piece.domain z) → k < n
       → Contains (map (λ at. at.number) spots) k
   pub order : AllPairs (λ at of. at.number < of.number) spots
 
 -- what computes on a cell is of the piece's variable
-same_piece : (a : Array) (at : Spot) → IsSpot a at → (c m : ℕ) (z : Point) (v : Variable) (k : ℕ) (piece : Piece) → ComputesIn a at.cell c m z → slice_get (nodes (system_of a)) m ≡ Some v → slice_get v.pieces k ≡ Some piece → k ≡ at.number
-    → (m ≡ at.node) × (piece ≡ view_piece at.piece.now)
+same_piece : (a : Array) (at : Spot) → IsSpot a at → (c m : ℕ) (z : Point) (v : Variable) (k : ℕ) (piece : Piece) → ComputesIn a at.cell.0 c m z → slice_get (nodes (system_of a)) m ≡ Some v → slice_get v.pieces k ≡ Some piece → k ≡ at.number
+    → (m ≡ at.node.0) × (piece ≡ view_piece at.piece.now)
 same_piece a at is c m z v k piece computes is_variable is_piece number =
-    let node : m ≡ at.node = sym computes.stands.node ∙ ap (λ (x : Cell). x.node) (some_is computes.cell is.cell (sym computes.is_cell ∙ is.is_cell)) ∙ is.node in
+    let node : m ≡ at.node.0 = sym computes.stands.node ∙ ap (λ (x : Cell). x.node) (some_is computes.cell is.cell (sym computes.is_cell ∙ is.is_cell)) ∙ is.node in
     let same : v ≡ view_variable at.var.now = some_is v (view_variable at.var.now) (sym is_variable ∙ ap (λ (i : ℕ). slice_get (nodes (system_of a)) i) node ∙ is.is_variable) in
     (node, some_is piece (view_piece at.piece.now) (sym is_piece ∙ ap (λ (w : Variable). slice_get w.pieces k) same ∙ ap (λ (i : ℕ). slice_get (view_variable at.var.now).pieces i) number ∙ is.is_piece))
 
 -- a piece with a computation
-pub one_spot_more : (a : Array) (p n : ℕ) (spots : List Spot) (at : Spot) → AreSpotsBelow a p n spots → at.cell ≡ p → at.number ≡ n → 0 < length at.slots → IsSpot a at → AreSpotsBelow a p (n + 1) (spots ++ at ∷ [])
+pub one_spot_more : (a : Array) (p n : ℕ) (spots : List Spot) (at : Spot) → AreSpotsBelow a p n spots → at.cell.0 ≡ p → at.number ≡ n → 0 < length at.slots → IsSpot a at → AreSpotsBelow a p (n + 1) (spots ++ at ∷ [])
 one_spot_more a p n spots at h cell number some is = record {
-  each = All-push (λ (of : Spot). (of.cell ≡ p) × (0 < length of.slots) × IsSpot a of) spots at h.each (cell, some, is);
+  each = All-push (λ (of : Spot). (of.cell.0 ≡ p) × (0 < length of.slots) × IsSpot a of) spots at h.each (cell, some, is);
   low = All-push (λ (of : Spot). of.number < n + 1) spots at (All-weaker (λ (of : Spot). of.number < n) (λ (of : Spot). of.number < n + 1) (λ of l. omega (arith, l)) spots h.low) (omega (arith, number));
   all = λ c m z v k piece computes is_variable is_piece within l.
       (let e = map-append (λ (of : Spot). of.number) spots (at ∷ []) in
@@ -73,16 +73,16 @@ one_spot_more a p n spots at h cell number some is = record {
 }
 
 -- a piece without one
-pub none_more : (a : Array) (p n : ℕ) (spots : List Spot) (at : Spot) → AreSpotsBelow a p n spots → at.cell ≡ p → at.number ≡ n → length at.slots ≡ 0 → IsSpot a at → AreSpotsBelow a p (n + 1) spots
+pub none_more : (a : Array) (p n : ℕ) (spots : List Spot) (at : Spot) → AreSpotsBelow a p n spots → at.cell.0 ≡ p → at.number ≡ n → length at.slots ≡ 0 → IsSpot a at → AreSpotsBelow a p (n + 1) spots
 none_more a p n spots at h cell number none is = record {
   each = h.each;
   low = All-weaker (λ (of : Spot). of.number < n) (λ (of : Spot). of.number < n + 1) (λ of l. omega (arith, l)) spots h.low;
   all = λ c m z v k piece computes is_variable is_piece within l. (elim (cases_lt k n) [
     | inl lt ↦ h.all c m z v k piece computes is_variable is_piece within lt
     | inr ge ↦
-        let here : ComputesIn a at.cell c m z = subst (λ (i : ℕ). ComputesIn a i c m z) (sym cell) computes in
+        let here : ComputesIn a at.cell.0 c m z = subst (λ (i : ℕ). ComputesIn a i c m z) (sym cell) computes in
         let e = same_piece a at is c m z v k piece here is_variable is_piece (omega (arith, number, ge, l)) in
-        let among = is.are_slots.all c z (subst (λ (i : ℕ). ComputesIn a at.cell c i z) e.0 here) (subst (λ (q : Piece). IsTrue (has q.domain z)) e.1 within) in
+        let among = is.are_slots.all c z (subst (λ (i : ℕ). ComputesIn a at.cell.0 c i z) e.0 here) (subst (λ (q : Piece). IsTrue (has q.domain z)) e.1 within) in
         let low = among.1 in
         absurd (omega (arith, low, none))
   ]);

@@ -24,6 +24,7 @@ use Rattle.av_space.specs.Occupancy.{AreCells, IsCellBefore, Computes}
 use Rattle.av_space.specs.Taps.{Way, each, entries, handed, Tap, taps, IsReadBy, IsTapRead}
 use Rattle.av_space.specs.Layouts.{IsLayout, IsSlot}
 use Rattle.av_space.specs.inner.Readings.{IsFineTap, IsSiteOn, IsReadingAt}
+use Rattle.av_space.specs.inner.Stretches.{tap_reading}
 use Rattle.av_space.proofs.Elements.{at_index}
 use Rattle.av_space.proofs.FineSites.{fine_tap}
 use Rattle.av_flat.proofs.NodeNumbers.{passing, own_place, chained_node}
@@ -122,24 +123,24 @@ module _ (t : Timed) (l : Layout) (legal : IsLegal t) (layout : IsLayout t l) wh
   -- where the point that is read stands, is what is read
   pub only_reading : (p j n : ℕ) (tap : Tap) (piece : Piece) (slots : List Slot) → IsSiteOn own t.helpers l.placements l.cells p j n tap piece slots → (c : ℕ) (z : Point) → Contains slots (record { cycle = c; point = z })
       → IsTrue (has piece.domain z) → (k : ℕ) (y : Point) → IsTapRead own n tap.place.tree tap.way piece z k y → (cell when : ℕ) → Computes own l.placements l.cells cell when k y → (q d : ℕ)
-      → IsReadingAt own l.placements l.cells n tap piece z c q d ↔ (◌≡◌ {A = Option TapReading} (Some (record { cycle = c; producer = cell; delay = c - when })) (Some (record { cycle = c; producer = q; delay = d })))
+      → IsReadingAt own l.placements l.cells n tap piece z c q d ↔ (◌≡◌ {A = Option TapReading} (Some (tap_reading c cell (c - when))) (Some (tap_reading c q d)))
   only_reading p j n tap piece slots is c z at inside k y reads cell when computed q d = (one_way, other_way)
     where
-      one_way : IsReadingAt own l.placements l.cells n tap piece z c q d → ◌≡◌ {A = Option TapReading} (Some (record { cycle = c; producer = cell; delay = c - when })) (Some (record { cycle = c; producer = q; delay = d }))
+      one_way : IsReadingAt own l.placements l.cells n tap piece z c q d → ◌≡◌ {A = Option TapReading} (Some (tap_reading c cell (c - when))) (Some (tap_reading c q d))
       one_way r =
           let e = one_read own n tap.place.tree tap.way piece z r.producer k r.read y r.reads reads in
           let there : Computes own l.placements l.cells q r.earlier k y = subst (λ (x : Point). Computes own l.placements l.cells q r.earlier k x) e.1 (subst (λ (m : ℕ). Computes own l.placements l.cells q r.earlier m r.read) e.0 r.computed) in
           let f = one_place own l.placements l.cells layout.are_cells cell q when r.earlier k y computed there in
           let late : c - when ≡ d = (let g = f.1 in let h = r.later in omega (arith, g, h)) in
-          ap₂ (λ a b. Some (record { cycle = c; producer = a; delay = b })) f.0 late
+          ap₂ (λ a b. Some (tap_reading c a b)) f.0 late
 
-      other_way : ◌≡◌ {A = Option TapReading} (Some (record { cycle = c; producer = cell; delay = c - when })) (Some (record { cycle = c; producer = q; delay = d })) → IsReadingAt own l.placements l.cells n tap piece z c q d
+      other_way : ◌≡◌ {A = Option TapReading} (Some (tap_reading c cell (c - when))) (Some (tap_reading c q d)) → IsReadingAt own l.placements l.cells n tap piece z c q d
       other_way e =
           let first = read_before p j n tap piece slots is c z at inside k y reads in
-          let s = some_is (record { cycle = c; producer = cell; delay = c - when }) (record { cycle = c; producer = q; delay = d }) e in
+          let s = some_is (tap_reading c cell (c - when)) (tap_reading c q d) e in
           let f = one_place own l.placements l.cells layout.are_cells first.0 cell first.1 when k y first.5 computed in
           let late : when + d ≡ c = (let g = f.1 in let h = first.3 in let i = ap (λ (r : TapReading). r.delay) s in omega (arith, g, h, i)) in
-          record { within = inside; producer = k; read = y; reads = reads; earlier = when; later = late; computed = subst (λ (m : ℕ). Computes own l.placements l.cells m when k y) (ap (λ (r : TapReading). r.producer) s) computed }
+          record { within = inside; producer = k; read = y; reads = reads; earlier = when; later = late; computed = subst (λ (m : ℕ). Computes own l.placements l.cells m when k y) (ap (λ (r : TapReading). r.producer.0) s) computed }
 
   -- and in no cycle after that of the reader
   pub reads_earlier : (p j n : ℕ) (tap : Tap) (piece : Piece) (slots : List Slot) → IsSiteOn own t.helpers l.placements l.cells p j n tap piece slots → (c : ℕ) (z : Point) → Contains slots (record { cycle = c; point = z })

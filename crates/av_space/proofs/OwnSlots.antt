@@ -67,7 +67,7 @@ readings_of_own s placings cells n t piece slots own e readings h =
   where
     whole : AreReadings (IsReadingOf s placings cells n t piece (filter (λ x. has piece.domain x.point) slots)) readings → AreReadings (IsReadingOf s placings cells n t piece slots) readings
     whole h = record {
-      each = All-weaker (λ r. IsReadingOf s placings cells n t piece (filter (λ x. has piece.domain x.point) slots) r.cycle r.producer r.delay) (λ r. IsReadingOf s placings cells n t piece slots r.cycle r.producer r.delay)
+      each = All-weaker (λ r. IsReadingOf s placings cells n t piece (filter (λ x. has piece.domain x.point) slots) r.cycle r.producer.0 r.delay) (λ r. IsReadingOf s placings cells n t piece slots r.cycle r.producer.0 r.delay)
           (λ r i. record { point = i.point; is_slot = (from_filter (λ (x : Slot). has piece.domain x.point) slots (record { cycle = r.cycle; point = i.point }) i.is_slot).0; is = i.is }) readings h.each;
       all = λ c q d i. h.all c q d (record { point = i.point; is_slot = among_filter (λ (x : Slot). has piece.domain x.point) slots (record { cycle = c; point = i.point }) i.is_slot i.is.within; is = i.is });
       order = h.order;

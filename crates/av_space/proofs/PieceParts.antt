@@ -88,12 +88,12 @@ reference_there at j place m h =
 -- ---- the cells of the node
 
 pub cell_between : (at : NodePiece) (is : IsNodePiece at) (p : ℕ) (slots : List Slot) → at.first ≤ p → p < at.last → slice_get at.scheduled.now.layout.slots p ≡ Some slots
-    → (on : IsCellOf (view_system at.scheduled.now.timed.flat) at.scheduled.now.layout.placements at.scheduled.now.layout.cells p is.variable slots) × (on.cell.node ≡ at.node)
+    → (on : IsCellOf (view_system at.scheduled.now.timed.flat) at.scheduled.now.layout.placements at.scheduled.now.layout.cells p is.variable slots) × (on.cell.node ≡ at.node.0)
 cell_between at is p slots low high e =
     let cells = at.scheduled.now.layout.cells in
     let w = is.within in
     let x = there_is cells p (omega (arith, high, w)) in
-    let node = node_between cells at.node at.first at.last p x.0 is.first is.last low high x.1 in
+    let node = node_between cells at.node.0 at.first at.last p x.0 is.first is.last low high x.1 in
     let var = ap (λ (n : ℕ). slice_get (nodes (view_system at.scheduled.now.timed.flat)) n) node ∙ is.is_variable in
     (record { cell = x.0; is_cell = x.1; is_variable = var; are_slots = is.scheduled.layout.are_slots p slots e }, node)
 
@@ -116,7 +116,7 @@ pub one_cell_more : (at : NodePiece) (is : IsNodePiece at) (j : ℕ) (site : Inp
 one_cell_more at is j site own p slots low high e old new h f few =
     let s = view_system at.scheduled.now.timed.flat in
     let r = cell_between at is p slots low high e in
-    let on : IsSiteOn s at.scheduled.now.timed.helpers at.scheduled.now.layout.placements at.scheduled.now.layout.cells at.node at.number j p (view_piece at.piece.now) site.direction (view_variable site.input.now) site.map.now slots = record {
+    let on : IsSiteOn s at.scheduled.now.timed.helpers at.scheduled.now.layout.placements at.scheduled.now.layout.cells at.node.0 at.number j p (view_piece at.piece.now) site.direction (view_variable site.input.now) site.map.now slots = record {
       cell = r.0.cell;
       is_cell = r.0.is_cell;
       node = r.1;
@@ -130,7 +130,7 @@ one_cell_more at is j site own p slots low high e old new h f few =
       kind = own.kind;
       direction_is = own.direction;
     } in
-    let more = next_cell s at.scheduled.now.timed.helpers at.scheduled.now.layout.placements at.scheduled.now.layout.cells at.node at.number j p (view_piece at.piece.now) site.direction (view_variable site.input.now) site.map.now slots on old h in
+    let more = next_cell s at.scheduled.now.timed.helpers at.scheduled.now.layout.placements at.scheduled.now.layout.cells at.node.0 at.number j p (view_piece at.piece.now) site.direction (view_variable site.input.now) site.map.now slots on old h in
     let same = f ∙ ap (λ (set : _). with_port (record { cell = p; piece = at.number; site = j }) site.input.now.name site.map.now old (filter (λ (t : Slot). is_entered set site.direction t.point) slots)) own.domain in
     subst (ArePortsAt at j (p + 1)) (sym same) (more (subst (λ (ports : Found). length ports.inputs ≤ 2 ^ 64) same few))
 
@@ -163,11 +163,11 @@ own_points at is j site fits p low high own is_own =
 pub reads_other : (at : NodePiece) (is : IsNodePiece at) (j place : ℕ) (m : Map) (v : Variable) → slice_get (references (view_piece at.piece.now).tree) j ≡ Some (record { place = place; map = m })
     → slice_get (view_system at.scheduled.now.timed.flat).variables place ≡ Some v → (IsTrue (is_input v.kind) → ⊥)
     → (port : InPort) → IsPort (view_system at.scheduled.now.timed.flat) at.scheduled.now.timed.helpers at.scheduled.now.layout.placements at.scheduled.now.layout.cells port
-    → node_of at.scheduled.now.layout.cells port.cell ≡ Some at.node → port.piece ≡ at.number → port.site ≡ j → ⊥
+    → node_of at.scheduled.now.layout.cells port.cell ≡ Some at.node.0 → port.piece ≡ at.number → port.site ≡ j → ⊥
 reads_other at is j place m v is_reference is_variable other port h node number site =
     let s = view_system at.scheduled.now.timed.flat in
     let f = h.4 in
-    let n = node_of_port s at.scheduled.now.timed.helpers at.scheduled.now.layout.placements at.scheduled.now.layout.cells port h at.node node in
+    let n = node_of_port s at.scheduled.now.timed.helpers at.scheduled.now.layout.placements at.scheduled.now.layout.cells port h at.node.0 node in
     let same : f.variable ≡ is.variable = some_is f.variable is.variable (sym f.is_variable ∙ ap (λ (i : ℕ). slice_get (nodes s) i) n ∙ is.is_variable) in
     let piece : f.piece ≡ view_piece at.piece.now = some_is f.piece (view_piece at.piece.now)
     (sym f.is_piece ∙ ap (λ (i : ℕ). slice_get f.variable.pieces i) number ∙ ap (λ (w : Variable). slice_get w.pieces at.number) same ∙ is.is_piece) in
@@ -184,16 +184,16 @@ not_input v t u = go (is_input v.kind) t u
 
 -- the direction of a reference's helper
 pub fine_direction : (at : NodePiece) (is : IsNodePiece at) (j place : ℕ) (m : Map) → slice_get (references (view_piece at.piece.now).tree) j ≡ Some (record { place = place; map = m })
-    → (o : Option Pipeline) → helper_at at.scheduled.now.timed.helpers (node_place (view_system at.scheduled.now.timed.flat) at.node) at.number j ≡ o
+    → (o : Option Pipeline) → helper_at at.scheduled.now.timed.helpers (node_place (view_system at.scheduled.now.timed.flat) at.node.0) at.number j ≡ o
     → IfSome (direction_of o) (λ w. length w ≡ m.from) × IfSome (direction_of o) (AtMost 4095)
 fine_direction at is j place m e None f = (tt, tt)
 fine_direction at is j place m e (Some h) f =
     let s = view_system at.scheduled.now.timed.flat in
     let hs = at.scheduled.now.timed.helpers in
-    let own = node_place s at.node in
+    let own = node_place s at.node.0 in
     let r = found_helper hs 0 own at.number j h f in
     let moving = all_at (IsMoving s at.scheduled.now.timed.times) hs r.at r.helper is.scheduled.legal.helpers r.is_helper in
-    let var : moving.variable ≡ is.variable = some_is moving.variable is.variable (sym moving.is ∙ ap (λ (i : ℕ). slice_get s.variables i) r.var_is ∙ node_variable s at.node is.variable is.is_variable) in
+    let var : moving.variable ≡ is.variable = some_is moving.variable is.variable (sym moving.is ∙ ap (λ (i : ℕ). slice_get s.variables i) r.var_is ∙ node_variable s at.node.0 is.variable is.is_variable) in
     let piece : moving.piece ≡ view_piece at.piece.now = some_is moving.piece (view_piece at.piece.now)
     (sym moving.is_piece ∙ ap (λ (i : ℕ). slice_get moving.variable.pieces i) r.piece_is ∙ ap (λ (w : Variable). slice_get w.pieces at.number) var ∙ is.is_piece) in
     let same : moving.reference ≡ record { place = place; map = m } = some_is moving.reference (record { place = place; map = m })
@@ -223,11 +223,11 @@ var_is at var x vars l e f = variable_at at.scheduled.now.timed.flat.vars var x 
 
 -- a reference to an input as the code has it
 pub site_is : (at : NodePiece) (is : IsNodePiece at) (j var : ℕ) (m : Map) (x : Var) (site : InputSite) → IsPart at j (reference var m) → slice_get (view_system at.scheduled.now.timed.flat).variables var ≡ Some (view_variable x) → is_computed x.kind ≡ false
-    → site.domain.now ≡ at.piece.now.domain → site.input.now ≡ x → site.map.now ≡ m → site.direction ≡ direction_of (helper_at at.scheduled.now.timed.helpers (node_place (view_system at.scheduled.now.timed.flat) at.node) at.number j)
+    → site.domain.now ≡ at.piece.now.domain → site.input.now ≡ x → site.map.now ≡ m → site.direction ≡ direction_of (helper_at at.scheduled.now.timed.helpers (node_place (view_system at.scheduled.now.timed.flat) at.node.0) at.number j)
     → IsInputSite at j site
 site_is at is j var m x site part read computed a b c d =
     let there = reference_there at j var m part in
-    let fine = fine_direction at is j var m there (helper_at at.scheduled.now.timed.helpers (node_place (view_system at.scheduled.now.timed.flat) at.node) at.number j) refl in
+    let fine = fine_direction at is j var m there (helper_at at.scheduled.now.timed.helpers (node_place (view_system at.scheduled.now.timed.flat) at.node.0) at.number j) refl in
     let from = part.fits.from in
     record {
       domain = a;
@@ -237,7 +237,7 @@ site_is at is j var m x site part read computed a b c d =
       is_read = read ∙ ap (λ (y : Var). Some (view_variable y)) (sym b);
       kind = subst (λ (y : Var). IsTrue (is_input y.kind)) (sym b) (input_kind (is_input x.kind) computed);
       readable = record {
-        size = subst (λ (o : Option Point). IfSome o (λ w. length w ≡ site.domain.now.dim)) (sym d) (subst (λ (n : ℕ). IfSome (direction_of (helper_at at.scheduled.now.timed.helpers (node_place (view_system at.scheduled.now.timed.flat) at.node) at.number j)) (λ w. length w ≡ n)) (from ∙ ap (λ (set : Set). set.dim) (sym a)) fine.0);
+        size = subst (λ (o : Option Point). IfSome o (λ w. length w ≡ site.domain.now.dim)) (sym d) (subst (λ (n : ℕ). IfSome (direction_of (helper_at at.scheduled.now.timed.helpers (node_place (view_system at.scheduled.now.timed.flat) at.node.0) at.number j)) (λ w. length w ≡ n)) (from ∙ ap (λ (set : Set). set.dim) (sym a)) fine.0);
         small = subst (λ (o : Option Point). IfSome o (AtMost 4095)) (sym d) fine.1;
         from = ap (λ (g : Map). g.from) c ∙ from ∙ ap (λ (set : Set). set.dim) (sym a);
         rows = subst (λ (g : Map). All IsWithinLimits g.rows) (sym c) part.rows;

@@ -18,7 +18,7 @@ use Rattle.av_space.specs.Links.{AreLinks}
 use Rattle.av_space.specs.Taps.{Tap, taps, IsTapped}
 use Rattle.av_space.specs.Layouts.{IsLayout}
 use Rattle.av_space.specs.inner.Readings.{IsConsumer, IsSiteOn, IsReadingAt, IsReadingOf, AreReadings}
-use Rattle.av_space.specs.inner.Stretches.{HasLinks, IsAt, IsOnBelow, Told}
+use Rattle.av_space.specs.inner.Stretches.{HasLinks, IsAt, IsOnBelow, Told, tap_reading}
 use Rattle.av_space.proofs.Elements.{in_range}
 use Rattle.av_space.proofs.JoinedLinks.{retold}
 use Rattle.av_space.proofs.OneReading.{slot_computes}
@@ -72,7 +72,7 @@ module _ (t : Timed) (l : Layout) (legal : IsLegal t) (layout : IsLayout t l) (p
     added = links.added;
     new_is = links.new_is;
     are = retold (Told rs) Tapped (IsAt p j) links.added
-        (λ k i c q d at told. subst (λ (a : ℕ). Tapped a i c q d) (sym at.0) (subst (λ (b : ℕ). Tapped p b c q d) (sym at.1) (to_tapped c q d (All-contains (λ r. Of r.cycle r.producer r.delay) rs (record { cycle = c; producer = q; delay = d }) h.each told))))
+        (λ k i c q d at told. subst (λ (a : ℕ). Tapped a i c q d) (sym at.0) (subst (λ (b : ℕ). Tapped p b c q d) (sym at.1) (to_tapped c q d (All-contains (λ r. Of r.cycle r.producer.0 r.delay) rs (tap_reading c q d) h.each told))))
         (λ k i c q d at tapped. h.all c q d (from_tapped c q d (subst (λ (b : ℕ). Tapped p b c q d) at.1 (subst (λ (a : ℕ). Tapped a i c q d) at.0 tapped))))
         links.are;
   }

@@ -12,15 +12,13 @@ use Rattle.av_space.specs.declared.stretch.TapReading.{TapReading}
 use Rattle.av_space.specs.Coordinates.{Placing}
 use Rattle.av_space.specs.Taps.{Tap}
 use Rattle.av_space.specs.inner.Readings.{IsReadingAt, IsReadingOf, AreReadings}
+use Rattle.av_space.specs.inner.Stretches.{tap_reading}
 use Rattle.av_space.proofs.Stretching.{earlier_ones}
 use Rattle.av_base.proofs.Lists.{some_is}
 
 abbrev pub listed : Option TapReading → List TapReading
 listed None = []
 listed (Some r) = r ∷ []
-
-abbrev told : ℕ → ℕ → ℕ → TapReading
-told c q d = record { cycle = c; producer = q; delay = d }
 
 module _ (s : FlatSystem) (placings : List Placing) (cells : List Cell) (n : ℕ) (t : Tap) (piece : Piece) where
   abbrev Of : List Slot → ℕ → ℕ → ℕ → Type 0
@@ -41,9 +39,9 @@ module _ (s : FlatSystem) (placings : List Placing) (cells : List Cell) (n : ℕ
   ]
 
   pub one_slot_more : (slots : List Slot) (x : Slot) (rs : List TapReading) → All (λ y. y.cycle < x.cycle) slots → AreReadings (Of slots) rs → (o : Option TapReading) → IfSome o (λ r. r.cycle ≡ x.cycle)
-      → ((q d : ℕ) → At x.point x.cycle q d ↔ (◌≡◌ {A = Option TapReading} o (Some (record { cycle = x.cycle; producer = q; delay = d })))) → AreReadings (Of (slots ++ x ∷ [])) (rs ++ listed o)
+      → ((q d : ℕ) → At x.point x.cycle q d ↔ (◌≡◌ {A = Option TapReading} o (Some (tap_reading x.cycle q d)))) → AreReadings (Of (slots ++ x ∷ [])) (rs ++ listed o)
   one_slot_more slots x rs later h None when only = subst (AreReadings (Of (slots ++ x ∷ []))) (sym (append-nil rs)) (record {
-    each = All-weaker (λ r. Of slots r.cycle r.producer r.delay) (λ r. Of (slots ++ x ∷ []) r.cycle r.producer r.delay) (λ r i. among slots (x ∷ []) r.cycle r.producer r.delay i) rs h.each;
+    each = All-weaker (λ r. Of slots r.cycle r.producer.0 r.delay) (λ r. Of (slots ++ x ∷ []) r.cycle r.producer.0 r.delay) (λ r i. among slots (x ∷ []) r.cycle r.producer.0 r.delay i) rs h.each;
     all = λ c q d r. elim (cases_of slots x c q d r) [
       | inl old ↦ h.all c q d old
       | inr new ↦ let e = (only q d).0 new.1 in absurd cc
@@ -51,24 +49,24 @@ module _ (s : FlatSystem) (placings : List Placing) (cells : List Cell) (n : ℕ
     order = h.order;
   })
   one_slot_more slots x rs later h (Some r) when only = record {
-    each = All-push (λ r. Of (slots ++ x ∷ []) r.cycle r.producer r.delay) rs r
-        (All-weaker (λ r. Of slots r.cycle r.producer r.delay) (λ r. Of (slots ++ x ∷ []) r.cycle r.producer r.delay) (λ r i. among slots (x ∷ []) r.cycle r.producer r.delay i) rs h.each)
-        (subst (λ (k : ℕ). Of (slots ++ x ∷ []) k r.producer r.delay) (sym when) (record { point = x.point; is_slot = Contains-push slots x; is = here }));
+    each = All-push (λ r. Of (slots ++ x ∷ []) r.cycle r.producer.0 r.delay) rs r
+        (All-weaker (λ r. Of slots r.cycle r.producer.0 r.delay) (λ r. Of (slots ++ x ∷ []) r.cycle r.producer.0 r.delay) (λ r i. among slots (x ∷ []) r.cycle r.producer.0 r.delay i) rs h.each)
+        (subst (λ (k : ℕ). Of (slots ++ x ∷ []) k r.producer.0 r.delay) (sym when) (record { point = x.point; is_slot = Contains-push slots x; is = here }));
     all = λ c q d i. elim (cases_of slots x c q d i) [
-      | inl old ↦ Contains-append_left rs (r ∷ []) (told c q d) (h.all c q d old)
+      | inl old ↦ Contains-append_left rs (r ∷ []) (tap_reading c q d) (h.all c q d old)
       | inr new ↦
-          let e : r ≡ told x.cycle q d = some_is r (told x.cycle q d) ((only q d).0 new.1) in
-          subst (λ (k : ℕ). Contains (rs ++ r ∷ []) (told k q d)) new.0 (subst (λ (y : TapReading). Contains (rs ++ r ∷ []) y) e (Contains-push rs r))
+          let e : r ≡ tap_reading x.cycle q d = some_is r (tap_reading x.cycle q d) ((only q d).0 new.1) in
+          subst (λ (k : ℕ). Contains (rs ++ r ∷ []) (tap_reading k q d)) new.0 (subst (λ (y : TapReading). Contains (rs ++ r ∷ []) y) e (Contains-push rs r))
     ];
     order = all_pairs_push (λ a b. a.cycle < b.cycle) rs r h.order (λ k d low. let i = h.each k d low in
         let l = All-contains (λ y. y.cycle < x.cycle) slots (record { cycle = (get_or rs k d).cycle; point = i.point }) later i.is_slot in omega (arith, l, when));
   }
     where
-      here : At x.point x.cycle r.producer r.delay
-      here = (only r.producer r.delay).1 (ap (λ k. Some (told k r.producer r.delay)) when)
+      here : At x.point x.cycle r.producer.0 r.delay
+      here = (only r.producer.0 r.delay).1 (ap (λ k. Some (tap_reading k r.producer.0 r.delay)) when)
 
   pub next_slot : (slots : List Slot) (k : ℕ) (x : Slot) → k < length slots → x ≡ get_or slots k x → AllPairs (λ a b. a.cycle < b.cycle) slots → (rs : List TapReading) → AreReadings (Of (take k slots)) rs → (o : Option TapReading)
-      → IfSome o (λ r. r.cycle ≡ x.cycle) → ((q d : ℕ) → At x.point x.cycle q d ↔ (◌≡◌ {A = Option TapReading} o (Some (record { cycle = x.cycle; producer = q; delay = d }))))
+      → IfSome o (λ r. r.cycle ≡ x.cycle) → ((q d : ℕ) → At x.point x.cycle q d ↔ (◌≡◌ {A = Option TapReading} o (Some (tap_reading x.cycle q d))))
       → AreReadings (Of (take (k + 1) slots)) (rs ++ listed o)
   next_slot slots k x lt is order rs h o when only =
       let one : take (k + 1) slots ≡ take k slots ++ x ∷ [] = take_more slots k x lt ∙ ap (λ (y : Slot). take k slots ++ y ∷ []) (sym is) in

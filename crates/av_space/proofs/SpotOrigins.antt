@@ -90,7 +90,7 @@ no_place vs whole q (made.Ref place m) a b h = a place m refl
 no_place vs whole q (made.Pick place choices n) a b h = b place choices n refl
 no_place vs whole q _ a b h = absurd h
 
-module _ (a : Array) (is : IsArray a) (at : Spot) (spot : IsSpot a at) (mine : Site) (placed : IsSiteOf a at mine) (slot : Slot) (on : IsSlotIn a at.cell at.node at.piece.now.domain slot) where
+module _ (a : Array) (is : IsArray a) (at : Spot) (spot : IsSpot a at) (mine : Site) (placed : IsSiteOf a at mine) (slot : Slot) (on : IsSlotIn a at.cell.0 at.node.0 at.piece.now.domain slot) where
   abbrev s : FlatSystem
   s = system_of a
 
@@ -100,28 +100,28 @@ module _ (a : Array) (is : IsArray a) (at : Spot) (spot : IsSpot a at) (mine : S
   -- ---- by itself
 
   pub own_site : IsComputedRead s q.tree → IsSpotTap a at (own_tap q mine.pipeline)
-  own_site c = tap_of_place a is at spot mine placed (own_way mine.pipeline) (own_at s (helpers_of a) at.place q q.tree mine.pipeline placed.pipeline c)
+  own_site c = tap_of_place a is at spot mine placed (own_way mine.pipeline) (own_at s (helpers_of a) at.place.0 q q.tree mine.pipeline placed.pipeline c)
 
   pub own_found : IsReadAt mine.pipeline (piece a is at spot) slot.point → (tap : Tap) → tap ≡ own_tap q mine.pipeline → (o : Option TapReading)
-      → MatchOption o (IsReadThere a at tap slot → ⊥) (λ r. IsReadThere a at tap slot × IsLinkedBy a at slot.cycle tap r.producer r.delay)
-      → MatchOption o ((place : ℕ) (y : Point) → IsReadBy q.tree slot.point place y → ⊥) (λ r. IsReadThere a at (own_tap q mine.pipeline) slot × IsLinkedBy a at slot.cycle (own_tap q mine.pipeline) r.producer r.delay)
+      → MatchOption o (IsReadThere a at tap slot → ⊥) (λ r. IsReadThere a at tap slot × IsLinkedBy a at slot.cycle tap r.producer.0 r.delay)
+      → MatchOption o ((place : ℕ) (y : Point) → IsReadBy q.tree slot.point place y → ⊥) (λ r. IsReadThere a at (own_tap q mine.pipeline) slot × IsLinkedBy a at slot.cycle (own_tap q mine.pipeline) r.producer.0 r.delay)
   own_found entered tap e None h = λ place y r. subst (λ (t : Tap). IsReadThere a at t slot → ⊥) e h
-      (record { node = number_at s place; point = y; reads = own_read s at.node q.tree mine.pipeline (piece a is at spot) slot.point entered place y r })
-  own_found entered tap e (Some r) h = (subst (λ (t : Tap). IsReadThere a at t slot) e h.0, subst (λ (t : Tap). IsLinkedBy a at slot.cycle t r.producer r.delay) e h.1)
+      (record { node = number_at s place; point = y; reads = own_read s at.node.0 q.tree mine.pipeline (piece a is at spot) slot.point entered place y r })
+  own_found entered tap e (Some r) h = (subst (λ (t : Tap). IsReadThere a at t slot) e h.0, subst (λ (t : Tap). IsLinkedBy a at slot.cycle t r.producer.0 r.delay) e h.1)
 
   -- ---- by its helper
 
   pub handed_site : (h : Pipeline) → mine.pipeline ≡ Some h → IsSpotTap a at (handed_tap q h)
-  handed_site h e = tap_of_place a is at spot mine placed (handed h.number h.direction) (handed_at s (helpers_of a) at.place q q.tree h (sym placed.pipeline ∙ e))
+  handed_site h e = tap_of_place a is at spot mine placed (handed h.number h.direction) (handed_at s (helpers_of a) at.place.0 q q.tree h (sym placed.pipeline ∙ e))
 
   pub handed_found : (h : Pipeline) (tap : Tap) → tap ≡ handed_tap q h → (o : Option TapReading)
-      → MatchOption o (IsReadThere a at tap slot → ⊥) (λ r. IsReadThere a at tap slot × IsLinkedBy a at slot.cycle tap r.producer r.delay)
+      → MatchOption o (IsReadThere a at tap slot → ⊥) (λ r. IsReadThere a at tap slot × IsLinkedBy a at slot.cycle tap r.producer.0 r.delay)
       → MatchOption o (IsTrue (has at.piece.now.domain (before slot.point h.direction)) → ⊥)
-      (λ r. IsTrue (has at.piece.now.domain (before slot.point h.direction)) × IsLinkedBy a at slot.cycle (handed_tap q h) r.producer r.delay)
-  handed_found h tap e None f = λ inside. subst (λ (t : Tap). IsReadThere a at t slot → ⊥) e f (record { node = at.node; point = before slot.point h.direction; reads = (refl, refl, inside) })
+      (λ r. IsTrue (has at.piece.now.domain (before slot.point h.direction)) × IsLinkedBy a at slot.cycle (handed_tap q h) r.producer.0 r.delay)
+  handed_found h tap e None f = λ inside. subst (λ (t : Tap). IsReadThere a at t slot → ⊥) e f (record { node = at.node.0; point = before slot.point h.direction; reads = (refl, refl, inside) })
   handed_found h tap e (Some r) f =
       let read = subst (λ (t : Tap). IsReadThere a at t slot) e f.0 in
-      (subst (λ (z : Point). IsTrue (has at.piece.now.domain z)) read.reads.1 read.reads.2, subst (λ (t : Tap). IsLinkedBy a at slot.cycle t r.producer r.delay) e f.1)
+      (subst (λ (z : Point). IsTrue (has at.piece.now.domain z)) read.reads.1 read.reads.2, subst (λ (t : Tap). IsLinkedBy a at slot.cycle t r.producer.0 r.delay) e f.1)
 
   -- ---- references
 
@@ -146,7 +146,7 @@ module _ (a : Array) (is : IsArray a) (at : Spot) (spot : IsSpot a at) (mine : S
           is_reference = among;
         }
 
-    pub reads_port : computed_at (slice_get s.variables place) ≡ false → (n : ℕ) → slice_get a.cells.now.inputs n ≡ Some (record { cell = at.cell; piece = at.number; site = mine.place.site })
+    pub reads_port : computed_at (slice_get s.variables place) ≡ false → (n : ℕ) → slice_get a.cells.now.inputs n ≡ Some (record { cell = at.cell.0; piece = at.number; site = mine.place.site })
         → IsReferenceOrigin a at slot.cycle mine.place.site place m (own_way mine.pipeline) (origin.Port n)
     reads_port c n is_port =
         let w = declared_read a is at spot mine placed slot on place (image m.rows slot.point) reads in
@@ -159,10 +159,10 @@ module _ (a : Array) (is : IsArray a) (at : Spot) (spot : IsSpot a at) (mine : S
     reads_some none = none place (image m.rows slot.point) reads
 
     pub reads_link : computed_at (slice_get s.variables place) ≡ true → (k d : ℕ) → IsLinkedBy a at slot.cycle (own_tap q mine.pipeline) k d
-        → IsReferenceOrigin a at slot.cycle mine.place.site place m (own_way mine.pipeline) (origin.Value k d)
+        → IsReferenceOrigin a at slot.cycle mine.place.site place m (own_way mine.pipeline) (origin.Value (record { 0 = k }) d)
     reads_link c k d l =
         let w = node_read a is at spot mine placed slot on (computed_tree c) place (image m.rows slot.point) reads in
-        over_link k d w.variable w.is w.node (subst (λ (x : Place). IsLinkedBy a at slot.cycle (record { place = x; way = own_way mine.pipeline }) k d) same l)
+        over_link (record { 0 = k }) d w.variable w.is w.node (subst (λ (x : Place). IsLinkedBy a at slot.cycle (record { place = x; way = own_way mine.pipeline }) k d) same l)
       where
         same : q ≡ record { piece = at.number; site = mine.place.site; tree = reference place m }
         same = ap (λ (n : ℕ). record { piece = n; site = mine.place.site; tree = q.tree }) (piece_is a is at spot mine placed) ∙ ap (λ (t : Tree). record { piece = at.number; site = mine.place.site; tree = t }) tree
@@ -174,7 +174,7 @@ module _ (a : Array) (is : IsArray a) (at : Spot) (spot : IsSpot a at) (mine : S
     pick_read = pick_computed s (references (view at.piece.now.tree)) q q.tree place n choices tree (known a is at spot mine placed)
 
     no_pipeline : mine.pipeline ≡ None
-    no_pipeline = placed.pipeline ∙ ap (pipeline_by (helpers_of a) at.place q) tree
+    no_pipeline = placed.pipeline ∙ ap (pipeline_by (helpers_of a) at.place.0 q) tree
 
     reads_point : (y : Point) → picked choices slot.point ≡ Some y → IsReadBy q.tree slot.point place y
     reads_point y e = subst (λ (t : Tree). IsReadBy t slot.point place y) (sym tree) (refl, e)
@@ -187,14 +187,14 @@ module _ (a : Array) (is : IsArray a) (at : Spot) (spot : IsSpot a at) (mine : S
         by None e = refl
         by (Some y) e = absurd (none place y (reads_point y e))
 
-    pub picks_link : (k d : ℕ) → IsReadThere a at (own_tap q mine.pipeline) slot → IsLinkedBy a at slot.cycle (own_tap q mine.pipeline) k d → IsPickOrigin a at slot.cycle q place n (picked choices slot.point) (origin.Value k d)
+    pub picks_link : (k d : ℕ) → IsReadThere a at (own_tap q mine.pipeline) slot → IsLinkedBy a at slot.cycle (own_tap q mine.pipeline) k d → IsPickOrigin a at slot.cycle q place n (picked choices slot.point) (origin.Value (record { 0 = k }) d)
     picks_link k d there l = by (picked choices slot.point) refl
       where
-        by : (o : Option Point) → picked choices slot.point ≡ o → IsPickOrigin a at slot.cycle q place n o (origin.Value k d)
-        by None e = absurd (never (subst (λ (h : Option Pipeline). IsTapRead s at.node q.tree (own_way h) (piece a is at spot) slot.point there.node there.point) no_pipeline there.reads))
+        by : (o : Option Point) → picked choices slot.point ≡ o → IsPickOrigin a at slot.cycle q place n o (origin.Value (record { 0 = k }) d)
+        by None e = absurd (never (subst (λ (h : Option Pipeline). IsTapRead s at.node.0 q.tree (own_way h) (piece a is at spot) slot.point there.node there.point) no_pipeline there.reads))
           where
-            never : IsTapRead s at.node q.tree each (piece a is at spot) slot.point there.node there.point → ⊥
+            never : IsTapRead s at.node.0 q.tree each (piece a is at spot) slot.point there.node there.point → ⊥
             never r = let f = subst (λ (t : Tree). IsReadBy t slot.point r.0 there.point) tree r.1 in let g = sym e ∙ f.1 in absurd cc
         by (Some y) e =
             let w = node_read a is at spot mine placed slot on pick_read place y (reads_point y e) in
-            (k, d, w.variable, w.is, w.node, subst (λ (h : Option Pipeline). IsLinkedBy a at slot.cycle (own_tap q h) k d) no_pipeline l, refl)
+            (record { 0 = k }, d, w.variable, w.is, w.node, subst (λ (h : Option Pipeline). IsLinkedBy a at slot.cycle (own_tap q h) k d) no_pipeline l, refl)

@@ -7,33 +7,30 @@ use Rattle.std.proofs.lemmas.List.Quantifiers.{all_pairs_push}
 use Rattle.av_space.specs.declared.cells.Link.{Link}
 use Rattle.av_space.specs.declared.stretch.TapReading.{TapReading}
 use Rattle.av_space.specs.Links.{IsLinkBefore}
-use Rattle.av_space.specs.inner.Stretches.{IsStretchOf, AreApartBy, AreLinksIn, HasLinks, IsAt, Told, AreByCycle, IsOpen, HasOpen}
+use Rattle.av_space.specs.inner.Stretches.{IsStretchOf, AreApartBy, AreLinksIn, HasLinks, IsAt, Told, AreByCycle, IsOpen, HasOpen, tap_reading}
 
 -- the stretch that begins with a reading
 abbrev pub begun : ℕ → ℕ → TapReading → Link
-begun p j r = record { consumer = p; producer = r.producer; site = j; delay = r.delay; first = r.cycle; last = r.cycle }
+begun p j r = record { consumer = p; producer = r.producer.0; site = j; delay = r.delay; first = r.cycle; last = r.cycle }
 
 -- a reading as it is told
-abbrev told : ℕ → ℕ → ℕ → TapReading
-told c q d = record { cycle = c; producer = q; delay = d }
-
 -- the readings so far, and one in a later cycle
 module _ (rs : List TapReading) (r : TapReading) (later : All (λ x. x.cycle < r.cycle) rs) where
   more : List TapReading
   more = rs ++ r ∷ []
 
-  is_before : (c q d : ℕ) → Contains rs (told c q d) → c < r.cycle
-  is_before c q d t = All-contains (λ x. x.cycle < r.cycle) rs (told c q d) later t
+  is_before : (c q d : ℕ) → Contains rs (tap_reading c q d) → c < r.cycle
+  is_before c q d t = All-contains (λ x. x.cycle < r.cycle) rs (tap_reading c q d) later t
 
-  among : (c q d : ℕ) → Contains rs (told c q d) → Contains (rs ++ r ∷ []) (told c q d)
-  among c q d t = Contains-append_left rs (r ∷ []) (told c q d) t
+  among : (c q d : ℕ) → Contains rs (tap_reading c q d) → Contains (rs ++ r ∷ []) (tap_reading c q d)
+  among c q d t = Contains-append_left rs (r ∷ []) (tap_reading c q d) t
 
   stretch_kept : (l : Link) → IsStretchOf (Told rs) l → IsStretchOf (Told (rs ++ r ∷ [])) l
   stretch_kept l s = record {
     ordered = s.ordered;
     begins = among l.first l.producer l.delay s.begins;
     ends = among l.last l.producer l.delay s.ends;
-    between = λ c q d low high t. elim (Contains-push_cases rs r (told c q d) t) [
+    between = λ c q d low high t. elim (Contains-push_cases rs r (tap_reading c q d) t) [
       | inl old ↦ s.between c q d low high old
       | inr e ↦ absurd (omega (arith, is_before l.last l.producer l.delay s.ends, ap (λ (x : TapReading). x.cycle) e))
     ];
@@ -47,7 +44,7 @@ module _ (rs : List TapReading) (r : TapReading) (later : All (λ x. x.cycle < r
     last_before = is_before last.last last.producer last.delay o.last_is.ends
 
     -- the reading goes on with the last stretch
-    pub prolonged : (r.producer ≡ last.producer) × (r.delay ≡ last.delay) → IsOpen p j (rs ++ r ∷ []) ended (record last { last = r.cycle })
+    pub prolonged : (r.producer.0 ≡ last.producer) × (r.delay ≡ last.delay) → IsOpen p j (rs ++ r ∷ []) ended (record last { last = r.cycle })
     prolonged same = record {
       within = o.within;
       last_within = o.last_within;
@@ -56,12 +53,12 @@ module _ (rs : List TapReading) (r : TapReading) (later : All (λ x. x.cycle < r
         ordered = omega (arith, o.last_is.ordered, last_before);
         begins = among last.first last.producer last.delay o.last_is.begins;
         ends = rw (sym same.0, sym same.1) (Contains-push rs r);
-        between = λ c q d low high t. elim (Contains-push_cases rs r (told c q d) t) [
-          | inl old ↦ o.last_is.between c q d low (All-contains (λ x. x.cycle ≤ last.last) rs (told c q d) o.latest old) old
-          | inr e ↦ (sym (ap (λ (x : TapReading). x.producer) e) ∙ same.0, sym (ap (λ (x : TapReading). x.delay) e) ∙ same.1)
+        between = λ c q d low high t. elim (Contains-push_cases rs r (tap_reading c q d) t) [
+          | inl old ↦ o.last_is.between c q d low (All-contains (λ x. x.cycle ≤ last.last) rs (tap_reading c q d) o.latest old) old
+          | inr e ↦ (sym (ap (λ (x : TapReading). x.producer.0) e) ∙ same.0, sym (ap (λ (x : TapReading). x.delay) e) ∙ same.1)
         ];
       };
-      all = λ c q d t. elim (Contains-push_cases rs r (told c q d) t) [
+      all = λ c q d t. elim (Contains-push_cases rs r (tap_reading c q d) t) [
         | inl old ↦ elim (o.all c q d old) [ inl x ↦ inl x | inr y ↦ inr (y.0, omega (arith, y.1, last_before)) ]
         | inr e ↦ let f = ap (λ (x : TapReading). x.cycle) e in inr (omega (arith, f, o.last_is.ordered, last_before), omega (arith, f))
       ];
@@ -73,7 +70,7 @@ module _ (rs : List TapReading) (r : TapReading) (later : All (λ x. x.cycle < r
     }
 
     -- the last stretch has ended, and the reading begins another
-    pub renewed : ((r.producer ≡ last.producer) × (r.delay ≡ last.delay) → ⊥) → IsOpen p j (rs ++ r ∷ []) (ended ++ last ∷ []) (begun p j r)
+    pub renewed : ((r.producer.0 ≡ last.producer) × (r.delay ≡ last.delay) → ⊥) → IsOpen p j (rs ++ r ∷ []) (ended ++ last ∷ []) (begun p j r)
     renewed differs = record {
       within = All-push (λ l. IsAt p j l.consumer l.site) ended last o.within o.last_within;
       last_within = (refl, refl);
@@ -82,12 +79,12 @@ module _ (rs : List TapReading) (r : TapReading) (later : All (λ x. x.cycle < r
         ordered = omega arith;
         begins = Contains-push rs r;
         ends = Contains-push rs r;
-        between = λ c q d low high t. elim (Contains-push_cases rs r (told c q d) t) [
+        between = λ c q d low high t. elim (Contains-push_cases rs r (tap_reading c q d) t) [
           | inl old ↦ absurd (omega (arith, is_before c q d old))
-          | inr e ↦ (sym (ap (λ (x : TapReading). x.producer) e), sym (ap (λ (x : TapReading). x.delay) e))
+          | inr e ↦ (sym (ap (λ (x : TapReading). x.producer.0) e), sym (ap (λ (x : TapReading). x.delay) e))
         ];
       };
-      all = λ c q d t. elim (Contains-push_cases rs r (told c q d) t) [
+      all = λ c q d t. elim (Contains-push_cases rs r (tap_reading c q d) t) [
         | inl old ↦ inl (elim (o.all c q d old) [ inl x ↦ (x.0, Contains-append_left ended (last ∷ []) x.0 x.1, x.2, x.3) | inr y ↦ (last, Contains-push ended last, y.0, y.1) ])
         | inr e ↦ let f = ap (λ (x : TapReading). x.cycle) e in inr (omega (arith, f), omega (arith, f))
       ];
@@ -110,12 +107,12 @@ started p j r = record {
     ordered = omega arith;
     begins = Contains-push [] r;
     ends = Contains-push [] r;
-    between = λ c q d low high t. elim (Contains-push_cases [] r (told c q d) t) [
+    between = λ c q d low high t. elim (Contains-push_cases [] r (tap_reading c q d) t) [
       | inl old ↦ absurd (omega (arith, old.1))
-      | inr e ↦ (sym (ap (λ (x : TapReading). x.producer) e), sym (ap (λ (x : TapReading). x.delay) e))
+      | inr e ↦ (sym (ap (λ (x : TapReading). x.producer.0) e), sym (ap (λ (x : TapReading). x.delay) e))
     ];
   };
-  all = λ c q d t. elim (Contains-push_cases [] r (told c q d) t) [
+  all = λ c q d t. elim (Contains-push_cases [] r (tap_reading c q d) t) [
     | inl old ↦ absurd (omega (arith, old.1))
     | inr e ↦ let f = ap (λ (x : TapReading). x.cycle) e in inr (omega (arith, f), omega (arith, f))
   ];
@@ -165,11 +162,11 @@ module _ (p j : ℕ) (rs rest : List TapReading) (first : TapReading) (is : rs �
   before_it : All (λ x. x.cycle < (get_or rest i d).cycle) (take (suc i) rs)
   before_it = subst (λ (r : TapReading). All (λ x. x.cycle < r.cycle) (take (suc i) rs)) next_is (earlier_ones (λ a b. a.cycle < b.cycle) rs (suc i) d within order)
 
-  pub went_on : ((get_or rest i d).producer ≡ last.producer) × ((get_or rest i d).delay ≡ last.delay) → HasOpen p j (take (suc (i + 1)) rs) old new (record last { last = (get_or rest i d).cycle })
+  pub went_on : ((get_or rest i d).producer.0 ≡ last.producer) × ((get_or rest i d).delay ≡ last.delay) → HasOpen p j (take (suc (i + 1)) rs) old new (record last { last = (get_or rest i d).cycle })
   went_on same = subst (λ (l : List TapReading). HasOpen p j l old new (record last { last = (get_or rest i d).cycle })) (sym one_more)
       (record { ended = o.ended; new_is = o.new_is; are = prolonged (take (suc i) rs) (get_or rest i d) before_it p j o.ended last o.are same })
 
-  pub went_anew : (((get_or rest i d).producer ≡ last.producer) × ((get_or rest i d).delay ≡ last.delay) → ⊥) → HasOpen p j (take (suc (i + 1)) rs) old (new ++ last ∷ []) (begun p j (get_or rest i d))
+  pub went_anew : (((get_or rest i d).producer.0 ≡ last.producer) × ((get_or rest i d).delay ≡ last.delay) → ⊥) → HasOpen p j (take (suc (i + 1)) rs) old (new ++ last ∷ []) (begun p j (get_or rest i d))
   went_anew differs = subst (λ (l : List TapReading). HasOpen p j l old (new ++ last ∷ []) (begun p j (get_or rest i d))) (sym one_more)
       (record {
         ended = o.ended ++ last ∷ [];

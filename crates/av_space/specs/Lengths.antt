@@ -13,7 +13,7 @@ use Rattle.av_space.specs.Links.{line_length}
 
 -- by cell, and then by helper
 abbrev pub line_cmp : DelayLine → DelayLine → Ordering
-line_cmp a b = ordering_then (nat_cmp a.cell b.cell) (option_cmp nat_cmp a.helper b.helper)
+line_cmp a b = ordering_then (nat_cmp a.cell.0 b.cell.0) (option_cmp nat_cmp a.helper b.helper)
 
 -- the length of a line in a table, 0 where it has none
 abbrev pub length_in : BTreeMap DelayLine ℕ → DelayLine → ℕ
@@ -21,4 +21,4 @@ length_in table line = unwrap_or (get line_cmp table line) 0
 
 -- the table has the length of each line that these links read
 abbrev pub AreLengths : FlatSystem → List Helper → List Cell → List Link → BTreeMap DelayLine ℕ → Type 0
-AreLengths s hs cells links table = (q : DelayLine) → length_in table q ≡ line_length s hs cells links q.cell q.helper
+AreLengths s hs cells links table = (q : DelayLine) → length_in table q ≡ line_length s hs cells links q.cell.0 q.helper

@@ -17,6 +17,7 @@ use Rattle.av_space.specs.declared.array.Array.{Array}
 use Rattle.av_space.specs.declared.cells.Cell.{Cell}
 use Rattle.av_space.specs.declared.cells.Link.{Link}
 use Rattle.av_space.specs.declared.layout.Slot.{Slot}
+use Rattle.av_space.specs.declared.numbers.CellNumber.{CellNumber}
 use Rattle.av_space.specs.declared.origin.Origin.{Origin}
 use Rattle.av_space.specs.declared.origin.Origin.TheVariants as origin
 use Rattle.av_space.specs.declared.spots.Ends.{Ends}
@@ -78,16 +79,16 @@ pub record AreSlotsIn (a : Array) (p n : ℕ) (set : Set) (slots : List Slot) : 
 -- a piece of the variable of a cell's node, with its computations there
 pub record IsSpot (a : Array) (at : Spot) : Type 0 where
   pub cell : Cell
-  pub is_cell : slice_get (cells_of a) at.cell ≡ Some cell
-  pub node : cell.node ≡ at.node
-  pub place : at.place ≡ node_place (system_of a) at.node
-  pub is_variable : slice_get (nodes (system_of a)) at.node ≡ Some (view_variable at.var.now)
+  pub is_cell : slice_get (cells_of a) at.cell.0 ≡ Some cell
+  pub node : cell.node ≡ at.node.0
+  pub place : at.place.0 ≡ node_place (system_of a) at.node.0
+  pub is_variable : slice_get (nodes (system_of a)) at.node.0 ≡ Some (view_variable at.var.now)
   pub is_piece : slice_get (view_variable at.var.now).pieces at.number ≡ Some (view_piece at.piece.now)
-  pub are_slots : AreSlotsIn a at.cell at.node at.piece.now.domain at.slots
+  pub are_slots : AreSlotsIn a at.cell.0 at.node.0 at.piece.now.domain at.slots
 
 -- the pieces with a computation on the cell p, by their numbers
 pub record AreSpots (a : Array) (p : ℕ) (spots : List Spot) : Type 0 where
-  pub each : All (λ at. (at.cell ≡ p) × (0 < length at.slots) × IsSpot a at) spots
+  pub each : All (λ at. (at.cell.0 ≡ p) × (0 < length at.slots) × IsSpot a at) spots
   pub all : (c n : ℕ) (z : Point) (v : Variable) (k : ℕ) (piece : Piece) → ComputesIn a p c n z → slice_get (nodes (system_of a)) n ≡ Some v
       → slice_get v.pieces k ≡ Some piece → IsTrue (has piece.domain z) → Contains (map (λ at. at.number) spots) k
   pub order : AllPairs (λ at of. at.number < of.number) spots
@@ -108,7 +109,7 @@ pipeline_by hs own p _ = None
 -- a place of the piece, with its helper
 pub record IsSiteOf (a : Array) (at : Spot) (site : Site) : Type 0 where
   pub is_place : Contains (places_in at.number 0 (view at.piece.now.tree)) (place_of site.place)
-  pub pipeline : site.pipeline ≡ pipeline_by (helpers_of a) at.place (place_of site.place) (view site.place.tree)
+  pub pipeline : site.pipeline ≡ pipeline_by (helpers_of a) at.place.0 (place_of site.place) (view site.place.tree)
 
 -- all of them, in the order of the text
 pub record AreSites (a : Array) (at : Spot) (sites : List Site) : Type 0 where
@@ -120,10 +121,10 @@ pub record AreSites (a : Array) (at : Spot) (sites : List Site) : Type 0 where
 -- in cycle c a link brings a tap of the spot from the cell q, with the delay d
 pub record IsLinkedBy (a : Array) (at : Spot) (c : ℕ) (tap : Tap) (q d : ℕ) : Type 0 where
   pub number : ℕ
-  pub is_tap : slice_get (taps (system_of a) (helpers_of a) (node_place (system_of a) at.node) (view_variable at.var.now)) number ≡ Some tap
+  pub is_tap : slice_get (taps (system_of a) (helpers_of a) (node_place (system_of a) at.node.0) (view_variable at.var.now)) number ≡ Some tap
   pub link : Link
   pub is_link : Contains a.cells.now.links link
-  pub in_link : IsInLink at.cell number c link
+  pub in_link : IsInLink at.cell.0 number c link
   pub producer_is : q ≡ link.producer
   pub delay_is : d ≡ link.delay
 
@@ -144,18 +145,18 @@ own_way (Some h) = entries h.direction
 pub data IsReferenceOrigin (a : Array) (at : Spot) (c i place : ℕ) (m : Map) (way : Way) : Origin → Type 0 where
   at_port : (n : ℕ) (read : Variable) → slice_get (system_of a).variables place ≡ Some read → IsTrue (is_input read.kind)
       → slice_get (references (view at.piece.now.tree)) i ≡ Some (record { place = place; map = m })
-      → slice_get a.cells.now.inputs n ≡ Some (record { cell = at.cell; piece = at.number; site = i })
+      → slice_get a.cells.now.inputs n ≡ Some (record { cell = at.cell.0; piece = at.number; site = i })
       → IsReferenceOrigin a at c i place m way (origin.Port n)
-  over_link : (q d : ℕ) (read : Variable) → slice_get (system_of a).variables place ≡ Some read → IsTrue (is_node read)
-      → IsLinkedBy a at c (record { place = record { piece = at.number; site = i; tree = reference place m }; way = way }) q d
+  over_link : (q : CellNumber) (d : ℕ) (read : Variable) → slice_get (system_of a).variables place ≡ Some read → IsTrue (is_node read)
+      → IsLinkedBy a at c (record { place = record { piece = at.number; site = i; tree = reference place m }; way = way }) q.0 d
       → IsReferenceOrigin a at c i place m way (origin.Value q d)
 
 -- a pick of the variable at a place reads over a link where a choice holds, and else has its number
 abbrev pub IsPickOrigin : Array → Spot → ℕ → Place → ℕ → ℕ → Option Point → Origin → Type 0
 IsPickOrigin a at c p place n None o = o ≡ origin.Number (record { bits = n })
 IsPickOrigin a at c p place n (Some y) o =
-    (q : ℕ) × (d : ℕ) × (read : Variable) × (slice_get (system_of a).variables place ≡ Some read) × IsTrue (is_node read)
-    × IsLinkedBy a at c (record { place = p; way = each }) q d × (o ≡ origin.Value q d)
+    (q : CellNumber) × (d : ℕ) × (read : Variable) × (slice_get (system_of a).variables place ≡ Some read) × IsTrue (is_node read)
+    × IsLinkedBy a at c (record { place = p; way = each }) q.0 d × (o ≡ origin.Value q d)
 
 -- where a place of the spot, with its helper, reads itself at a computation
 abbrev pub IsOriginBy : Array → Spot → Slot → Place → Option Pipeline → Tree → Origin → Type 0

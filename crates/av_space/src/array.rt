@@ -15,6 +15,7 @@ use crate::laying::lay_out;
 use crate::layout::{Layout, Slot};
 use crate::lengths::DelayLine;
 use crate::lines::line_lengths;
+use crate::numbers::CellNumber;
 use crate::scheduled::ScheduledSystem;
 use crate::timed_nodes::TimedNodes;
 use av_base::Memory;
@@ -96,26 +97,23 @@ impl<'a> Array<'a> {
     }
 
     /// The computations on a cell, by cycle.
-    pub fn slots(&self, cell: usize) -> &[Slot]
+    pub fn slots(&self, cell: CellNumber) -> &[Slot]
         requires array { IsArray self.now }
-        requires cell { cell < length (cells_of self.now) }
+        requires cell { cell.0 < length (cells_of self.now) }
         ensures { AreSlots (system_of self.now)
-            (placings_of self.now) (cells_of self.now) cell result.now }
+            (placings_of self.now) (cells_of self.now) cell.0 result.now }
     {
-        self.layout.slots.as_slice()[cell].as_slice()
+        self.layout.slots.as_slice()[cell.0 as usize].as_slice()
     }
 
     /// The length of the delay line of a cell's value, or of the word of a helper on it.
-    pub fn line_length(&self, cell: usize, helper: Option<usize>) -> u32
+    pub fn line_length(&self, cell: CellNumber, helper: Option<usize>) -> u32
         requires array { IsArray self.now }
-        requires cell { cell < length (cells_of self.now) }
+        requires cell { cell.0 < length (cells_of self.now) }
         ensures { result ≡ line_length (system_of self.now)
-            (helpers_of self.now) (cells_of self.now) self.now.cells.now.links cell helper }
+            (helpers_of self.now) (cells_of self.now) self.now.cells.now.links cell.0 helper }
     {
-        let line = DelayLine {
-            cell: cell as u32,
-            helper,
-        };
+        let line = DelayLine { cell, helper };
         match self.lengths.get(&line) {
             Some(length) => *length,
             None => 0,

@@ -9,7 +9,7 @@ use crate::placement::cycle_of;
 use crate::points::node_points;
 use crate::timed_nodes::TimedNodes;
 use av_base::{Memory, Point};
-use av_flat::Time;
+use av_flat::{Node, Time};
 use std::alloc::Global;
 
 // The greater of a count and the number after the greatest cycle of the points.
@@ -37,8 +37,8 @@ pub(crate) fn cycle_count(alloc: Global, timed: &TimedNodes<'_>) -> Result<u128,
 {
     let mut count: u128 = 0;
     for node in 0..timed.len() {
-        let points = node_points(alloc, timed, node)?;
-        let time = timed.time(node);
+        let points = node_points(alloc, timed, Node(node))?;
+        let time = timed.time(Node(node));
         count = raised(time, points.as_slice(), count);
     }
     Ok(count)

@@ -28,7 +28,7 @@ pub(crate) struct InputSite<'a> {
 
 /// The direction of the helper of a reference.
 pub(crate) fn direction_of(helpers: &[Helper], at: ReferenceAt) -> Option<Point>
-    ensures { result ≡ direction_of (helper_at helpers.now at.place at.piece at.site) }
+    ensures { result ≡ direction_of (helper_at helpers.now at.place.0 at.piece at.site.0) }
 {
     Some(helper_at(helpers, at)?.direction)
 }

@@ -19,23 +19,23 @@ use crate::ranked::{Ranked, node_ranked, run_end};
 use crate::timed_nodes::TimedNodes;
 use av_base::limits::{MOST_CELLS, MOST_CYCLES};
 use av_base::{List, Memory};
-use av_flat::Timed;
+use av_flat::{Node, Timed};
 use std::alloc::Global;
 
 // The number of cells of a node.
 fn node_cells(
     alloc: Global,
     timed: &TimedNodes<'_>,
-    node: usize,
+    node: Node,
     placement: &Placement,
 ) -> Result<usize, Memory>
-    requires within { node < length (nodes (view_system timed.now.flat)) }
+    requires within { node.0 < length (nodes (view_system timed.now.flat)) }
     requires placing { IsPlacing placement.now }
-    requires time { slice_get timed.now.times node ≡ Some placement.now.time }
+    requires time { slice_get timed.now.times node.0 ≡ Some placement.now.time }
     requires ends { HasFewCycles timed.now }
     ensures number { IfOk result (λ count. (placings : Items Placing)
-        → slice_get placings node ≡ Some placement.now
-        → HasCellCount (view_system timed.now.flat) placings node (node + 1) count) }
+        → slice_get placings node.0 ≡ Some placement.now
+        → HasCellCount (view_system timed.now.flat) placings node.0 (node.0 + 1) count) }
     ensures some { IfOk result (λ count. 0 < count) }
 {
     let all = node_ranked(alloc, timed, node, placement)?;
@@ -53,17 +53,17 @@ fn node_cells(
 fn placement_at<'p>(
     timed: &TimedNodes<'_>,
     placements: &'p List<Placement>,
-    node: usize,
+    node: Node,
 ) -> &'p Placement
     requires placings { ArePlacings timed.now.times placements.now }
-    requires within { node < length (nodes (view_system timed.now.flat)) }
-    ensures is { slice_get placements.now node ≡ Some result.now }
+    requires within { node.0 < length (nodes (view_system timed.now.flat)) }
+    ensures is { slice_get placements.now node.0 ≡ Some result.now }
     ensures placing { IsPlacing result.now }
-    ensures time { slice_get timed.now.times node ≡ Some result.now.time }
+    ensures time { slice_get timed.now.times node.0 ≡ Some result.now.time }
 {
     let count = timed.len();
-    prove!(node < count);
-    &placements.as_slice()[node]
+    prove!(node.0 < count);
+    &placements.as_slice()[node.0]
 }
 
 // The number of cells of all nodes, which is no less than that of the nodes.
@@ -81,8 +81,8 @@ fn cell_count(
 {
     let mut count: u128 = 0;
     for node in 0..timed.len() {
-        let placement = placement_at(timed, placements, node);
-        let cells = node_cells(alloc, timed, node, placement)?;
+        let placement = placement_at(timed, placements, Node(node));
+        let cells = node_cells(alloc, timed, Node(node), placement)?;
         count += cells as u128;
     }
     Ok(count)
@@ -103,20 +103,20 @@ fn slots_of(alloc: Global, ranked: &[Ranked]) -> Result<List<Slot>, Memory>
 fn add_node(
     alloc: Global,
     timed: &TimedNodes<'_>,
-    node: usize,
+    node: Node,
     placement: &Placement,
     cells: &mut List<Cell>,
     slots: &mut List<List<Slot>>,
 ) -> Result<(), Memory>
-    requires within { node < length (nodes (view_system timed.now.flat)) }
+    requires within { node.0 < length (nodes (view_system timed.now.flat)) }
     requires placing { IsPlacing placement.now }
-    requires time { slice_get timed.now.times node ≡ Some placement.now.time }
+    requires time { slice_get timed.now.times node.0 ≡ Some placement.now.time }
     requires ends { HasFewCycles timed.now }
-    requires few { node < 2 ^ 32 }
-    ensures cells { OnOk result ((placings : Items Placing) → slice_get placings node
-        ≡ Some placement.now → AreCellsIn (view_system timed.now.flat) placings 0 node cells.old
-        → AreCellsIn (view_system timed.now.flat) placings 0 (node + 1) cells.new) }
-    ensures slots { OnOk result ((placings : Items Placing) → slice_get placings node
+    requires few { node.0 < 2 ^ 32 }
+    ensures cells { OnOk result ((placings : Items Placing) → slice_get placings node.0
+        ≡ Some placement.now → AreCellsIn (view_system timed.now.flat) placings 0 node.0 cells.old
+        → AreCellsIn (view_system timed.now.flat) placings 0 (node.0 + 1) cells.new) }
+    ensures slots { OnOk result ((placings : Items Placing) → slice_get placings node.0
         ≡ Some placement.now → AreFilled (view_system timed.now.flat) placings cells.old slots.old
         → AreFilled (view_system timed.now.flat) placings cells.new slots.new) }
 {
@@ -127,7 +127,7 @@ fn add_node(
         let end = run_end(ranked, start);
         let own = slots_of(alloc, &ranked[start..end])?;
         cells.push(Cell {
-            node: node as u32,
+            node: node.0 as u32,
             at: placement.coordinates(&ranked[start].slot.point),
         })?;
         slots.push(own)?;
@@ -155,8 +155,8 @@ fn add_nodes(
         (AreFilled (view_system timed.now.flat) placements.now cells.new slots.new) }
 {
     for node in 0..timed.len() {
-        let placement = placement_at(timed, placements, node);
-        add_node(alloc, timed, node, placement, cells, slots)?;
+        let placement = placement_at(timed, placements, Node(node));
+        add_node(alloc, timed, Node(node), placement, cells, slots)?;
     }
     Ok(())
 }

@@ -1,6 +1,7 @@
 ghost use Rattle.std.specs.Prelude.{◌≡◌};
 
 use crate::cells::Cell;
+use crate::numbers::CellNumber;
 use crate::placement::Placement;
 use av_base::{List, Point};
 
@@ -38,6 +39,6 @@ pub struct Layout {
 /// The cell and the cycle of a computation.
 #[derive(Clone, Copy, Debug, PartialEq, Eq)]
 pub(crate) struct Located {
-    pub(crate) cell: u32,
+    pub(crate) cell: CellNumber,
     pub(crate) cycle: u32,
 }

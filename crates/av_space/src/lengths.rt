@@ -5,13 +5,14 @@ ghost use Rattle.av_space.specs.declared.lengths.DelayLine.{DelayLine as LineSee
 ghost use Rattle.av_space.specs.inner.Lengths.{is_line};
 ghost use Rattle.av_space.specs.Lengths.{length_in};
 
+use crate::numbers::CellNumber;
 use av_base::Memory;
 use std::collections::BTreeMap;
 
 /// A delay line: of the value of a cell, or of the pipeline of a helper on it.
 #[derive(Clone, Copy, Debug, PartialEq, Eq, PartialOrd, Ord)]
 pub struct DelayLine {
-    pub(crate) cell: u32,
+    pub(crate) cell: CellNumber,
     pub(crate) helper: Option<usize>,
 }
 

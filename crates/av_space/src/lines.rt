@@ -11,9 +11,11 @@ ghost use Rattle.av_space.specs.inner.Scheduled.{system_of, helpers_of, placings
 use crate::cells::Link;
 use crate::lengths::{DelayLine, lengthened};
 use crate::linking::{node_taps, site_at, taps_of_node};
+use crate::numbers::CellNumber;
 use crate::scheduled::ScheduledSystem;
 use crate::tap::TapSite;
 use av_base::{List, Memory};
+use av_flat::Node;
 use std::alloc::Global;
 use std::collections::BTreeMap;
 
@@ -26,9 +28,9 @@ fn line_of(scheduled: &ScheduledSystem<'_>, sites: &[List<TapSite<'_>>], link: &
         (system_of scheduled.now) (helpers_of scheduled.now) (cells_of scheduled.now) link.now }
 {
     let cell = &scheduled.cells()[link.consumer as usize];
-    let own = taps_of_node(sites, cell.node as usize);
+    let own = taps_of_node(sites, Node(cell.node as usize));
     DelayLine {
-        cell: link.producer,
+        cell: CellNumber(link.producer),
         helper: site_at(own.as_slice(), link.site as usize).helper(),
     }
 }

@@ -10,12 +10,13 @@ ghost use Rattle.av_space.specs.inner.Sites.{tap_of, AreNodeTaps};
 ghost use Rattle.av_space.specs.inner.Readings.{IsSite, HasSite, IsReadingAt, IsReadingOf, AreReadings, IsReader, AreOwn};
 ghost use Rattle.av_space.specs.inner.Quantified.{LinksOf};
 ghost use Rattle.av_space.specs.inner.Scheduled.{system_of, helpers_of, placings_of, cells_of};
-ghost use Rattle.av_space.specs.inner.Stretches.{HasLinks, IsAt, IsOn};
+ghost use Rattle.av_space.specs.inner.Stretches.{HasLinks, IsAt, IsOn, tap_reading};
 
 use crate::apart::slots_in;
 use crate::cells::Link;
 use crate::layout::Slot;
 use crate::locate::locate;
+use crate::numbers::CellNumber;
 use crate::reading::{is_in, read_at};
 use crate::scheduled::ScheduledSystem;
 use crate::stretch::{TapAt, TapReading, site_links};
@@ -23,14 +24,14 @@ use crate::tap::TapSite;
 use crate::tapping::taps_of;
 use crate::timed_nodes::TimedNodes;
 use av_base::{List, Memory};
-use av_flat::{Piece, Var};
+use av_flat::{Node, Piece, Var};
 use std::alloc::Global;
 
 /// A cell that reads: its number, its node with the variable, and its computations.
 #[derive(Drop)]
 struct Consumer<'a> {
-    number: u32,
-    node: usize,
+    number: CellNumber,
+    node: Node,
     var: &'a Var,
     slots: &'a [Slot],
 }
@@ -38,19 +39,19 @@ struct Consumer<'a> {
 /// What a tap site reads at a computation of its cell.
 pub(crate) fn reading_at(
     scheduled: &ScheduledSystem<'_>,
-    node: usize,
+    node: Node,
     site: &TapSite<'_>,
     piece: &Piece,
     slot: &Slot,
 ) -> Option<TapReading>
     requires { (slots : Items SlotSeen) × Contains slots slot.now
         × IsSite (system_of scheduled.now) (helpers_of scheduled.now) (placings_of scheduled.now)
-        (cells_of scheduled.now) node (tap_of site.now) (view_piece piece.now) slots }
+        (cells_of scheduled.now) node.0 (tap_of site.now) (view_piece piece.now) slots }
     ensures cycle { IfSome result (λ r. r.cycle ≡ slot.now.cycle) }
     ensures reading { (q d : ℕ) → IsReadingAt
-        (system_of scheduled.now) (placings_of scheduled.now) (cells_of scheduled.now) node
+        (system_of scheduled.now) (placings_of scheduled.now) (cells_of scheduled.now) node.0
         (tap_of site.now) (view_piece piece.now) slot.now.point slot.now.cycle q d
-        ↔ (result ≡ Some (record { cycle = slot.now.cycle; producer = q; delay = d })) }
+        ↔ (result ≡ Some (tap_reading slot.now.cycle q d)) }
 {
     let timed = scheduled.timed();
     if !is_in(&piece.domain, &slot.point) {
@@ -69,16 +70,16 @@ pub(crate) fn reading_at(
 fn readings(
     alloc: Global,
     scheduled: &ScheduledSystem<'_>,
-    node: usize,
+    node: Node,
     site: &TapSite<'_>,
     piece: &Piece,
     slots: &[Slot],
 ) -> Result<List<TapReading>, Memory>
     requires { HasSite (system_of scheduled.now) (helpers_of scheduled.now)
-        (placings_of scheduled.now) (cells_of scheduled.now) node (tap_of site.now)
+        (placings_of scheduled.now) (cells_of scheduled.now) node.0 (tap_of site.now)
         (view_piece piece.now) slots.now }
     ensures { IfOk result (AreReadings (IsReadingOf
-        (system_of scheduled.now) (placings_of scheduled.now) (cells_of scheduled.now) node
+        (system_of scheduled.now) (placings_of scheduled.now) (cells_of scheduled.now) node.0
         (tap_of site.now) (view_piece piece.now) slots.now)) }
 {
     let mut readings = List::new(alloc);
@@ -118,12 +119,12 @@ fn tap_links(
 ) -> Result<(), Memory>
     requires consumer { IsReader scheduled.now consumer.now }
     requires site { slice_get (taps (system_of scheduled.now) (helpers_of scheduled.now) (node_place
-        (system_of scheduled.now) consumer.now.node) (view_variable consumer.now.var.now)) number
+        (system_of scheduled.now) consumer.now.node.0) (view_variable consumer.now.var.now)) number
         ≡ Some (tap_of site.now) }
     requires own { AreOwn (view_variable consumer.now.var.now) consumer.now.slots.now own.now }
     ensures { OnOk result (HasLinks (IsTapped (system_of scheduled.now)
         (helpers_of scheduled.now) (placings_of scheduled.now) (cells_of scheduled.now))
-        (IsAt consumer.now.number number) links.old links.new) }
+        (IsAt consumer.now.number.0 number) links.old links.new) }
 {
     let place = site.piece();
     let piece = piece_at(consumer.var, place);
@@ -148,12 +149,12 @@ fn cell_links(
     requires consumer { IsReader scheduled.now consumer.now }
     requires sites { map tap_of sites.now
         ≡ taps (system_of scheduled.now) (helpers_of scheduled.now)
-        (node_place (system_of scheduled.now) consumer.now.node)
+        (node_place (system_of scheduled.now) consumer.now.node.0)
         (view_variable consumer.now.var.now) }
     requires own { AreOwn (view_variable consumer.now.var.now) consumer.now.slots.now own.now }
     ensures { OnOk result (HasLinks (IsTapped (system_of scheduled.now)
         (helpers_of scheduled.now) (placings_of scheduled.now) (cells_of scheduled.now))
-        (IsOn consumer.now.number) links.old links.new) }
+        (IsOn consumer.now.number.0) links.old links.new) }
 {
     for number in 0..sites.len() {
         let site = site_at(sites.as_slice(), number);
@@ -171,25 +172,25 @@ pub(crate) fn node_taps<'a>(
 {
     let mut sites = List::new(alloc);
     for node in 0..timed.len() {
-        let var = timed.variable(node);
-        let taps = taps_of(alloc, timed.system(), timed.place(node), var)?;
+        let var = timed.variable(Node(node));
+        let taps = taps_of(alloc, timed.system(), timed.place(Node(node)), var)?;
         sites.push(taps)?;
     }
     Ok(sites)
 }
 
 // The cell with this number, as one that reads.
-fn consumer_at<'a>(scheduled: &ScheduledSystem<'a>, number: usize) -> Consumer<'a>
-    requires { number < length (cells_of scheduled.now) }
-    ensures number { result.number ≡ number }
+fn consumer_at<'a>(scheduled: &ScheduledSystem<'a>, number: CellNumber) -> Consumer<'a>
+    requires { number.0 < length (cells_of scheduled.now) }
+    ensures number { result.number.0 ≡ number.0 }
     ensures consumer { IsReader scheduled.now result }
 {
-    let node = scheduled.cells()[number].node as usize;
+    let node = Node(scheduled.cells()[number.0 as usize].node as usize);
     Consumer {
-        number: number as u32,
+        number,
         node,
         var: scheduled.variable(node),
-        slots: scheduled.slots()[number].as_slice(),
+        slots: scheduled.slots()[number.0 as usize].as_slice(),
     }
 }
 
@@ -211,12 +212,12 @@ fn slots_of_pieces(alloc: Global, consumer: &Consumer<'_>) -> Result<List<List<S
 /// The tap sites of a node.
 pub(crate) fn taps_of_node<'s, 'a>(
     sites: &'s [List<TapSite<'a>>],
-    node: usize,
+    node: Node,
 ) -> &'s List<TapSite<'a>>
-    requires { node < length sites.now }
-    ensures { result.now ≡ slice_index_or sites.now node [] }
+    requires { node.0 < length sites.now }
+    ensures { result.now ≡ slice_index_or sites.now node.0 [] }
 {
-    &sites[node]
+    &sites[node.0]
 }
 
 /// The tap site with this number.
@@ -234,7 +235,7 @@ pub(crate) fn links(alloc: Global, scheduled: &ScheduledSystem<'_>) -> Result<Li
     let sites = node_taps(alloc, scheduled.timed())?;
     let mut links = List::new(alloc);
     for number in 0..scheduled.cells().len() {
-        let consumer = consumer_at(scheduled, number);
+        let consumer = consumer_at(scheduled, CellNumber(number as u32));
         let own = taps_of_node(sites.as_slice(), consumer.node);
         let slots = slots_of_pieces(alloc, &consumer)?;
         cell_links(

@@ -8,8 +8,10 @@ ghost use Rattle.av_space.specs.inner.Scheduled.{system_of, placings_of, cells_o
 
 use crate::cells::Cell;
 use crate::layout::Located;
+use crate::numbers::CellNumber;
 use crate::scheduled::ScheduledSystem;
 use av_base::Point;
+use av_flat::Node;
 
 // Whether the first entries come before the second.
 fn is_before(a: &[i64], b: &[i64]) -> bool
@@ -27,21 +29,21 @@ fn is_before(a: &[i64], b: &[i64]) -> bool
 }
 
 // Whether the cell comes before that of the node at these coordinates.
-fn is_cell_before(cell: &Cell, node: usize, at: &Point) -> bool
-    ensures { IsTrue result ↔ IsCellBefore cell.now (record { node = node; at = at.now }) }
+fn is_cell_before(cell: &Cell, node: Node, at: &Point) -> bool
+    ensures { IsTrue result ↔ IsCellBefore cell.now (record { node = node.0; at = at.now }) }
 {
     let own = cell.node as usize;
-    if own != node {
-        return own < node;
+    if own != node.0 {
+        return own < node.0;
     }
     is_before(cell.at.as_slice(), at.as_slice())
 }
 
-// The number of the cell of the node at these coordinates.
-fn cell_at(cells: &[Cell], node: usize, at: &Point) -> usize
+// The place in the list of the cell of the node at these coordinates.
+fn cell_at(cells: &[Cell], node: Node, at: &Point) -> usize
     requires order { AllPairs IsCellBefore cells.now }
-    requires there { Contains cells.now (record { node = node; at = at.now }) }
-    ensures { slice_get cells.now result ≡ Some (record { node = node; at = at.now }) }
+    requires there { Contains cells.now (record { node = node.0; at = at.now }) }
+    ensures { slice_get cells.now result ≡ Some (record { node = node.0; at = at.now }) }
 {
     let mut low: usize = 0;
     let mut high = cells.len();
@@ -57,17 +59,17 @@ fn cell_at(cells: &[Cell], node: usize, at: &Point) -> usize
 }
 
 /// The cell that computes a point of a node, and the cycle in which it does.
-pub(crate) fn locate(scheduled: &ScheduledSystem<'_>, node: usize, z: &Point) -> Located
-    requires { IsComputation (system_of scheduled.now) node z.now }
-    ensures { Computes (system_of scheduled.now)
-        (placings_of scheduled.now) (cells_of scheduled.now) result.cell result.cycle node z.now }
+pub(crate) fn locate(scheduled: &ScheduledSystem<'_>, node: Node, z: &Point) -> Located
+    requires { IsComputation (system_of scheduled.now) node.0 z.now }
+    ensures { Computes (system_of scheduled.now) (placings_of scheduled.now)
+        (cells_of scheduled.now) result.cell.0 result.cycle node.0 z.now }
 {
     let placements = scheduled.placements();
-    let placement = &placements[node];
+    let placement = &placements[node.0];
     let at = placement.coordinates(z);
     let cell = cell_at(scheduled.cells(), node, &at);
     Located {
-        cell: cell as u32,
+        cell: CellNumber(cell as u32),
         cycle: placement.cycle(z) as u32,
     }
 }

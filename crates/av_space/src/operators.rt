@@ -13,10 +13,11 @@ ghost use Rattle.av_space.specs.inner.Scheduled.{system_of, placings_of, cells_o
 
 use crate::apart::are_apart;
 use crate::layout::Slot;
+use crate::numbers::CellNumber;
 use crate::scheduled::ScheduledSystem;
 use crate::timed_nodes::TimedNodes;
 use av_base::{List, Memory};
-use av_flat::{Piece, Tree, Var};
+use av_flat::{Node, Piece, Tree, Var};
 use std::alloc::Global;
 
 // Puts the references, constants, operators, choices and picks of a tree into a list.
@@ -75,7 +76,7 @@ fn all_sizes(alloc: Global, timed: &TimedNodes<'_>) -> Result<List<List<u32>>, M
 {
     let mut sizes = List::new(alloc);
     for node in 0..timed.len() {
-        let var = timed.variable(node);
+        let var = timed.variable(Node(node));
         sizes.push(sizes_of(alloc, var)?)?;
     }
     Ok(sizes)
@@ -107,17 +108,17 @@ fn is_used(slots: &[Slot], piece: &Piece) -> bool
 }
 
 // Those of the pieces on a cell.
-fn cell_operators(scheduled: &ScheduledSystem<'_>, sizes: &[List<u32>], cell: usize) -> u128
+fn cell_operators(scheduled: &ScheduledSystem<'_>, sizes: &[List<u32>], cell: CellNumber) -> u128
     requires sizes { sizes.now ≡ map piece_sizes (nodes (system_of scheduled.now)) }
-    requires cell { cell < length (cells_of scheduled.now) }
+    requires cell { cell.0 < length (cells_of scheduled.now) }
     ensures count { IsCountOf (system_of scheduled.now)
-        (placings_of scheduled.now) (cells_of scheduled.now) (IsOnCell cell) result }
+        (placings_of scheduled.now) (cells_of scheduled.now) (IsOnCell cell.0) result }
     ensures most { result ≤ 2 ^ 96 }
 {
-    let node = scheduled.cells()[cell].node as usize;
+    let node = Node(scheduled.cells()[cell.0 as usize].node as usize);
     let var = scheduled.variable(node);
-    let slots = scheduled.slots()[cell].as_slice();
-    let own = sizes[node].as_slice();
+    let slots = scheduled.slots()[cell.0 as usize].as_slice();
+    let own = sizes[node.0].as_slice();
     let mut sum: u128 = 0;
     for (number, piece) in var.pieces.as_slice().iter().enumerate() {
         if is_used(slots, piece) {
@@ -135,7 +136,7 @@ pub(crate) fn operators(alloc: Global, scheduled: &ScheduledSystem<'_>) -> Resul
     let sizes = all_sizes(alloc, scheduled.timed())?;
     let mut sum: u128 = 0;
     for cell in 0..scheduled.cells().len() {
-        sum += cell_operators(scheduled, sizes.as_slice(), cell);
+        sum += cell_operators(scheduled, sizes.as_slice(), CellNumber(cell as u32));
     }
     Ok(sum)
 }

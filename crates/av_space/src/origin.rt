@@ -12,6 +12,7 @@ use crate::array::Array;
 use crate::cells::{Cell, InPort};
 use crate::layout::Slot;
 use crate::linking::reading_at;
+use crate::numbers::CellNumber;
 use crate::scheduled::ScheduledSystem;
 use crate::spots::{Site, Spot};
 use crate::stretch::TapReading;
@@ -19,7 +20,7 @@ use crate::tap::{Pipeline, TapSite, Way};
 use crate::tapping::same;
 use av_base::{Point, Word};
 use av_depend::is_computed_at;
-use av_flat::Tree;
+use av_flat::{Tree, VariablePlace};
 
 /// Where a place of a piece reads in a cycle.
 #[derive(Clone, Copy, Debug, PartialEq, Eq)]
@@ -27,7 +28,7 @@ pub enum Origin {
     /// At the input port with this number.
     Port(usize),
     /// Over a link: the value that a cell had so many cycles before.
-    Value { cell: u32, delay: u32 },
+    Value { cell: CellNumber, delay: u32 },
     /// Nowhere, as no choice of its pick holds: this word stands for it.
     Number(Word),
 }
@@ -93,9 +94,9 @@ impl Array<'_> {
         requires spot { IsSpot self.now spot.now }
         requires tap { IsSpotTap self.now spot.now (tap_of tap.now) }
         requires slot { IsSlotIn self.now
-            spot.now.cell spot.now.node spot.now.piece.now.domain slot.now }
+            spot.now.cell.0 spot.now.node.0 spot.now.piece.now.domain slot.now }
         ensures { MatchOption result (IsReadThere self.now spot.now (tap_of tap.now) slot.now → ⊥)
-            (λ r. IsReadOver self.now spot.now (tap_of tap.now) slot.now r.producer r.delay) }
+            (λ r. IsReadOver self.now spot.now (tap_of tap.now) slot.now r.producer.0 r.delay) }
     {
         let scheduled = ScheduledSystem::new(&self.nodes, &self.layout);
         reading_at(&scheduled, spot.node, tap, spot.piece, slot)
@@ -107,19 +108,19 @@ impl Array<'_> {
         requires spot { IsSpot self.now spot.now }
         requires site { IsPortSite self.now spot.now site.now }
         requires slot { IsSlotIn self.now
-            spot.now.cell spot.now.node spot.now.piece.now.domain slot.now }
+            spot.now.cell.0 spot.now.node.0 spot.now.piece.now.domain slot.now }
         requires entered { IsReadAt site.now.pipeline
             (view_piece spot.now.piece.now) slot.now.point }
         ensures { slice_get self.now.cells.now.inputs result ≡ Some
-            (record { cell = spot.now.cell; piece = spot.now.number; site = site.now.place.site }) }
+            (record { cell = spot.now.cell.0; piece = spot.now.number; site = site.now.place.site }) }
     {
         // So few pieces that 32 bits number them.
         let _most = spot.var.pieces.len();
         let place = &site.place;
         let port = InPort {
-            cell: spot.cell as u32,
+            cell: spot.cell.0,
             piece: spot.number as u32,
-            site: place.site,
+            site: place.site.0,
         };
         let cells = self.layout.cells.as_slice();
         port_at(cells, self.cells.inputs.as_slice(), &port)
@@ -132,12 +133,12 @@ impl Array<'_> {
         requires site { IsSiteOf self.now spot.now site.now }
         requires computed { IsComputedRead (system_of self.now) (view site.now.place.tree) }
         requires slot { IsSlotIn self.now
-            spot.now.cell spot.now.node spot.now.piece.now.domain slot.now }
+            spot.now.cell.0 spot.now.node.0 spot.now.piece.now.domain slot.now }
         requires entered { IsReadAt site.now.pipeline
             (view_piece spot.now.piece.now) slot.now.point }
         ensures { MatchOption result (ReadsNothing (view site.now.place.tree) slot.now.point) (λ r.
             IsReadOver self.now spot.now
-            (own_tap (place_of site.now.place) site.now.pipeline) slot.now r.producer r.delay) }
+            (own_tap (place_of site.now.place) site.now.pipeline) slot.now r.producer.0 r.delay) }
     {
         let tap = TapSite {
             place: same(&site.place),
@@ -160,10 +161,10 @@ impl Array<'_> {
         requires site { IsSiteOf self.now spot.now site.now }
         requires pipeline { site.now.pipeline ≡ Some pipeline.now }
         requires slot { IsSlotIn self.now
-            spot.now.cell spot.now.node spot.now.piece.now.domain slot.now }
+            spot.now.cell.0 spot.now.node.0 spot.now.piece.now.domain slot.now }
         ensures { MatchOption result (HasPointBefore spot.now slot.now pipeline.now → ⊥) (λ r.
             HasPointBefore spot.now slot.now pipeline.now × IsLinkedBy self.now spot.now
-            slot.now.cycle (handed_tap (place_of site.now.place) pipeline.now) r.producer r.delay) }
+            slot.now.cycle (handed_tap (place_of site.now.place) pipeline.now) r.producer.0 r.delay) }
     {
         let tap = TapSite {
             place: same(&site.place),
@@ -181,7 +182,7 @@ impl Array<'_> {
         requires spot { IsSpot self.now spot.now }
         requires site { IsSiteOf self.now spot.now site.now }
         requires slot { IsSlotIn self.now
-            spot.now.cell spot.now.node spot.now.piece.now.domain slot.now }
+            spot.now.cell.0 spot.now.node.0 spot.now.piece.now.domain slot.now }
         requires entered { IsReadAt site.now.pipeline
             (view_piece spot.now.piece.now) slot.now.point }
         ensures { IsOriginBy self.now spot.now slot.now
@@ -190,7 +191,7 @@ impl Array<'_> {
         let place = &site.place;
         match place.tree {
             Tree::Ref { var, .. } => {
-                if !is_computed_at(&self.timed.flat, *var) {
+                if !is_computed_at(&self.timed.flat, VariablePlace(*var)) {
                     return Origin::Port(self.port(spot, site, slot));
                 }
                 let Some(reading) = self.linked(spot, site, slot) else {

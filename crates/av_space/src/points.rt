@@ -13,6 +13,7 @@ use crate::timed_nodes::TimedNodes;
 use av_base::{List, Memory, Point};
 use av_depend::all_points;
 use av_elim::box_of;
+use av_flat::Node;
 use av_poly::Poly;
 use std::alloc::Global;
 
@@ -33,10 +34,10 @@ pub(crate) fn points_of(alloc: Global, domain: &Poly) -> Result<List<Point>, Mem
 pub(crate) fn node_points(
     alloc: Global,
     timed: &TimedNodes<'_>,
-    node: usize,
+    node: Node,
 ) -> Result<List<Point>, Memory>
-    requires { node < length (nodes (view_system timed.now.flat)) }
-    ensures points { IfOk result (AreNodePoints (view_system timed.now.flat) node) }
+    requires { node.0 < length (nodes (view_system timed.now.flat)) }
+    ensures points { IfOk result (AreNodePoints (view_system timed.now.flat) node.0) }
     ensures legal { IsLegal timed.now }
 {
     points_of(alloc, &timed.variable(node).domain)

@@ -20,10 +20,11 @@ use crate::cells::{Cell, InPort};
 use crate::input_site::{InputSite, direction_of};
 use crate::layout::Slot;
 use crate::linking::piece_at;
+use crate::numbers::CellNumber;
 use crate::scheduled::ScheduledSystem;
 use crate::tapping::ReferenceAt;
 use av_base::{List, Memory, Name};
-use av_flat::{Piece, Reference, tree_references};
+use av_flat::{Node, Piece, Reference, SiteNumber, tree_references};
 use av_net::Entry;
 use std::alloc::Global;
 
@@ -37,7 +38,7 @@ pub(crate) struct Ports {
 // A node, and its cells: those from `first` on and before `last`.
 #[derive(Clone, Copy)]
 struct NodeCells {
-    node: usize,
+    node: Node,
     first: usize,
     last: usize,
 }
@@ -46,7 +47,7 @@ struct NodeCells {
 #[derive(Drop)]
 struct NodePiece<'s, 'a> {
     scheduled: &'s ScheduledSystem<'a>,
-    node: usize,
+    node: Node,
     piece: &'a Piece,
     number: u32,
     first: usize,
@@ -116,16 +117,16 @@ fn add_port(
 }
 
 // The computations on a cell of the node that are points of the piece.
-fn own_slots<'s>(at: &'s NodePiece, cell: usize) -> &'s [Slot]
+fn own_slots<'s>(at: &'s NodePiece, cell: CellNumber) -> &'s [Slot]
     requires at { IsNodePiece at.now }
-    requires low { at.now.first ≤ cell }
-    requires high { cell < at.now.last }
+    requires low { at.now.first ≤ cell.0 }
+    requires high { cell.0 < at.now.last }
     ensures { (slots : Items SlotSeen)
-        → slice_get at.now.scheduled.now.layout.slots cell ≡ Some slots → result.now
+        → slice_get at.now.scheduled.now.layout.slots cell.0 ≡ Some slots → result.now
         ≡ filter (λ t. has at.now.piece.now.domain t.point) slots }
 {
     let own = at.own.as_slice();
-    let place = cell - at.first;
+    let place = cell.0 as usize - at.first;
     own[place].as_slice()
 }
 
@@ -133,22 +134,22 @@ fn own_slots<'s>(at: &'s NodePiece, cell: usize) -> &'s [Slot]
 fn add_site(
     alloc: Global,
     at: &NodePiece,
-    number: u32,
+    number: SiteNumber,
     site: &InputSite,
     ports: &mut Ports,
 ) -> Result<(), Memory>
     requires at { IsNodePiece at.now }
-    requires site { IsInputSite at.now number site.now }
-    requires old { ArePortsAt at.now number at.now.first ports.old }
-    ensures { OnOk result (ArePortsAt at.now number at.now.last ports.new) }
+    requires site { IsInputSite at.now number.0 site.now }
+    requires old { ArePortsAt at.now number.0 at.now.first ports.old }
+    ensures { OnOk result (ArePortsAt at.now number.0 at.now.last ports.new) }
 {
     for cell in at.first..at.last {
         let port = InPort {
             cell: cell as u32,
             piece: at.number,
-            site: number,
+            site: number.0,
         };
-        let slots = own_slots(at, cell);
+        let slots = own_slots(at, CellNumber(cell as u32));
         add_port(alloc, site, port, slots, ports)?;
     }
     Ok(())
@@ -158,18 +159,18 @@ fn add_site(
 fn add_reference(
     alloc: Global,
     at: &NodePiece,
-    number: u32,
+    number: SiteNumber,
     read: &Reference<'_>,
     ports: &mut Ports,
 ) -> Result<(), Memory>
     requires at { IsNodePiece at.now }
-    requires part { IsPart at.now number (reference read.now.place read.now.map) }
-    requires old { ArePortsAt at.now number at.now.first ports.old }
-    ensures { OnOk result (ArePortsAt at.now (number + 1) at.now.first ports.new) }
+    requires part { IsPart at.now number.0 (reference read.now.place read.now.map) }
+    requires old { ArePortsAt at.now number.0 at.now.first ports.old }
+    ensures { OnOk result (ArePortsAt at.now (number.0 + 1) at.now.first ports.new) }
 {
     let nodes = at.scheduled.timed();
     let timed = nodes.system();
-    let input = &timed.flat.vars.as_slice()[read.var as usize];
+    let input = &timed.flat.vars.as_slice()[read.var.0 as usize];
     if input.kind.is_computed() {
         return Ok(());
     }
@@ -200,7 +201,7 @@ fn add_piece(alloc: Global, at: &NodePiece, ports: &mut Ports) -> Result<(), Mem
     let found = tree_references(alloc, &piece.tree)?;
     for number in 0..found.len() {
         let read = &found.as_slice()[number];
-        add_reference(alloc, at, number as u32, read, ports)?;
+        add_reference(alloc, at, SiteNumber(number as u32), read, ports)?;
     }
     Ok(())
 }
@@ -233,10 +234,10 @@ fn add_node(
     cells: NodeCells,
     ports: &mut Ports,
 ) -> Result<(), Memory>
-    requires node { cells.node < length (nodes (system_of scheduled.now)) }
+    requires node { cells.node.0 < length (nodes (system_of scheduled.now)) }
     requires cells { AreCellsOf (cells_of scheduled.now) cells }
-    requires old { ArePortsOf scheduled.now cells.node 0 cells.first ports.old }
-    ensures { OnOk result (ArePortsOf scheduled.now (cells.node + 1) 0 cells.last ports.new) }
+    requires old { ArePortsOf scheduled.now cells.node.0 0 cells.first ports.old }
+    ensures { OnOk result (ArePortsOf scheduled.now (cells.node.0 + 1) 0 cells.last ports.new) }
 {
     let var = scheduled.variable(cells.node);
     for number in 0..var.pieces.len() {
@@ -257,16 +258,16 @@ fn add_node(
 }
 
 // The number of the first cell behind those of a node, which begin here.
-fn end_of(cells: &[Cell], node: usize, first: usize) -> usize
+fn end_of(cells: &[Cell], node: Node, first: usize) -> usize
     requires order { AllPairs IsCellBefore cells.now }
-    requires first { IsFirstOf cells.now node first }
+    requires first { IsFirstOf cells.now node.0 first }
     requires within { first ≤ length cells.now }
     ensures ordered { first ≤ result }
-    ensures last { IsFirstOf cells.now (node + 1) result }
+    ensures last { IsFirstOf cells.now (node.0 + 1) result }
     ensures within { result ≤ length cells.now }
 {
     for number in first..cells.len() {
-        if cells[number].node as usize != node {
+        if cells[number].node as usize != node.0 {
             return number;
         }
     }
@@ -289,8 +290,13 @@ fn add_nodes(
     let cells = scheduled.cells();
     let mut first = 0;
     for node in 0..scheduled.node_count() {
-        let last = end_of(cells, node, first);
-        add_node(alloc, scheduled, NodeCells { node, first, last }, ports)?;
+        let last = end_of(cells, Node(node), first);
+        let own = NodeCells {
+            node: Node(node),
+            first,
+            last,
+        };
+        add_node(alloc, scheduled, own, ports)?;
         first = last;
     }
     Ok(())

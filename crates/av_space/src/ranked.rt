@@ -14,6 +14,7 @@ use crate::placement::Placement;
 use crate::points::node_points;
 use crate::timed_nodes::TimedNodes;
 use av_base::{Memory, Point};
+use av_flat::Node;
 use std::alloc::Global;
 
 /// A computation of a node, with the number that orders them by coordinates and then by cycle.
@@ -75,15 +76,15 @@ fn in_order(alloc: Global, placement: &Placement, points: &[Point]) -> Result<Ve
 pub(crate) fn node_ranked(
     alloc: Global,
     timed: &TimedNodes<'_>,
-    node: usize,
+    node: Node,
     placement: &Placement,
 ) -> Result<Vec<Ranked>, Memory>
-    requires within { node < length (nodes (view_system timed.now.flat)) }
+    requires within { node.0 < length (nodes (view_system timed.now.flat)) }
     requires placing { IsPlacing placement.now }
-    requires time { slice_get timed.now.times node ≡ Some placement.now.time }
+    requires time { slice_get timed.now.times node.0 ≡ Some placement.now.time }
     requires ends { HasFewCycles timed.now }
     ensures ranked { IfOk result (λ v.
-        AreRanked (view_system timed.now.flat) node placement.now v.items) }
+        AreRanked (view_system timed.now.flat) node.0 placement.now v.items) }
     ensures legal { IsLegal timed.now }
 {
     let points = node_points(alloc, timed, node)?;

@@ -17,20 +17,20 @@ use crate::tap::{TapSite, Way};
 use crate::timed_nodes::TimedNodes;
 use arrayvec::ArrayVec;
 use av_base::Point;
-use av_flat::{Choice, Piece, Tree};
+use av_flat::{Choice, Node, Piece, Tree, VariablePlace};
 use av_poly::Poly;
 
 /// A point of a variable, by its place, that a reference or a pick reads.
 #[derive(Drop)]
 struct PlaceRead {
-    place: u32,
+    place: VariablePlace,
     point: Point,
 }
 
 /// A computation that is read.
 #[derive(Debug, Drop)]
 pub(crate) struct Read {
-    pub(crate) node: usize,
+    pub(crate) node: Node,
     pub(crate) point: Point,
 }
 
@@ -95,16 +95,19 @@ fn place_read(tree: &Tree, point: &Point) -> Option<PlaceRead>
     requires small { AtMost 4095 point.now }
     ensures { MatchOption result ((place : ℕ) (y : PointSeen)
         → IsReadBy (view tree.now) point.now place y → ⊥) (λ r.
-        IsReadBy (view tree.now) point.now r.place r.point) }
+        IsReadBy (view tree.now) point.now r.place.0 r.point) }
 {
     match tree {
         Tree::Ref { var, map } => Some(PlaceRead {
-            place: *var,
+            place: VariablePlace(*var),
             point: map.apply(point),
         }),
         Tree::Pick { var, choices, .. } => {
             let point = picked(choices.as_slice(), point)?;
-            Some(PlaceRead { place: *var, point })
+            Some(PlaceRead {
+                place: VariablePlace(*var),
+                point,
+            })
         }
         _ => None,
     }
@@ -117,7 +120,7 @@ fn node_read(timed: &TimedNodes<'_>, tree: &Tree, point: &Point) -> Option<Read>
     ensures { MatchOption result ((place : ℕ) (y : PointSeen)
         → IsReadBy (view tree.now) point.now place y → ⊥) (λ r. (place : ℕ)
         × IsReadBy (view tree.now) point.now place r.point
-        × (r.node ≡ number_at (view_system timed.now.flat) place)) }
+        × (r.node.0 ≡ number_at (view_system timed.now.flat) place)) }
 {
     let read = place_read(tree, point)?;
     Some(Read {
@@ -138,7 +141,7 @@ fn is_entry(set: &Poly, point: &Point, direction: &Point) -> bool
 /// What a tap site of a node reads at a point of its piece.
 pub(crate) fn read_at(
     timed: &TimedNodes<'_>,
-    node: usize,
+    node: Node,
     site: &TapSite<'_>,
     piece: &Piece,
     point: &Point,
@@ -146,9 +149,9 @@ pub(crate) fn read_at(
     requires site { IsFineTap piece.now.domain.dim (length timed.now.flat.vars) (tap_of site.now) }
     requires point { IsSmallIn piece.now.domain point.now }
     ensures { MatchOption result ((k : ℕ) (y : PointSeen) → IsTapRead (view_system timed.now.flat)
-        node (view site.now.place.tree) (way_of site.now.way) (view_piece piece.now) point.now k y
-        → ⊥) (λ r. IsTapRead (view_system timed.now.flat) node (view site.now.place.tree)
-        (way_of site.now.way) (view_piece piece.now) point.now r.node r.point) }
+        node.0 (view site.now.place.tree) (way_of site.now.way) (view_piece piece.now) point.now k y
+        → ⊥) (λ r. IsTapRead (view_system timed.now.flat) node.0 (view site.now.place.tree)
+        (way_of site.now.way) (view_piece piece.now) point.now r.node.0 r.point) }
 {
     match &site.way {
         Way::Each => node_read(timed, site.place.tree, point),

@@ -12,7 +12,7 @@ use crate::layout::{Layout, Slot};
 use crate::placement::Placement;
 use crate::timed_nodes::TimedNodes;
 use av_base::List;
-use av_flat::Var;
+use av_flat::{Node, Var};
 use std::marker::Model;
 
 /// A legal timed system with its nodes, and where and when its computations stand. Contracts see the system and its layout.
@@ -94,9 +94,9 @@ impl<'a> ScheduledSystem<'a> {
     }
 
     /// The variable of a node.
-    pub(crate) fn variable(&self, node: usize) -> &'a Var
-        requires { node < length (nodes (system_of self.now)) }
-        ensures { slice_get (nodes (system_of self.now)) node ≡ Some (view_variable result.now) }
+    pub(crate) fn variable(&self, node: Node) -> &'a Var
+        requires { node.0 < length (nodes (system_of self.now)) }
+        ensures { slice_get (nodes (system_of self.now)) node.0 ≡ Some (view_variable result.now) }
     {
         self.timed.variable(node)
     }

@@ -10,10 +10,11 @@ ghost use Rattle.av_space.specs.inner.Scheduled.{system_of, placings_of, cells_o
 ghost use Rattle.av_space.specs.inner.Showing.{AreWires, IsShownNode, AreLinesBelow};
 
 use crate::locate::locate;
+use crate::numbers::CellNumber;
 use crate::points::node_points;
 use crate::scheduled::ScheduledSystem;
 use av_base::{List, Memory, Name, Point};
-use av_flat::{Kind, Var};
+use av_flat::{Kind, Node, Var};
 use av_net::Entry;
 use std::alloc::Global;
 
@@ -24,7 +25,7 @@ struct ShownNode<'s, 'a> {
     outputs: &'s [u32],
     /// Of each cell.
     wires: &'s [Name],
-    node: usize,
+    node: Node,
     var: &'a Var,
 }
 
@@ -58,7 +59,7 @@ pub(crate) fn output_cells(
 {
     let mut outputs = List::new(alloc);
     for (number, cell) in scheduled.cells().iter().enumerate() {
-        let var = scheduled.variable(cell.node as usize);
+        let var = scheduled.variable(Node(cell.node as usize));
         if is_output(var.kind) {
             outputs.push(number as u32)?;
         }
@@ -67,10 +68,11 @@ pub(crate) fn output_cells(
 }
 
 // The output port of a cell, or else its value wire.
-fn wire_of(alloc: Global, outputs: &[u32], cell: u32) -> Result<Name, Memory>
+fn wire_of(alloc: Global, outputs: &[u32], cell: CellNumber) -> Result<Name, Memory>
     requires order { AllPairs (λ a b. a < b) outputs.now }
-    ensures { IfOk result (IsWireOf outputs.now cell) }
+    ensures { IfOk result (IsWireOf outputs.now cell.0) }
 {
+    let cell = cell.0;
     let wire = match outputs.binary_search(&cell) {
         Ok(port) => format!(in alloc; "o{port}")?,
         Err(_) => format!(in alloc; "c{cell}")?,
@@ -86,31 +88,31 @@ fn wires_of(alloc: Global, outputs: &[u32], count: usize) -> Result<List<Name>, 
 {
     let mut wires = List::new(alloc);
     for cell in 0..count {
-        wires.push(wire_of(alloc, outputs, cell as u32)?)?;
+        wires.push(wire_of(alloc, outputs, CellNumber(cell as u32))?)?;
     }
     Ok(wires)
 }
 
 impl ShownNode<'_, '_> {
     // The wire of a cell.
-    fn wire(&self, alloc: Global, cell: u32) -> Result<Name, Memory>
+    fn wire(&self, alloc: Global, cell: CellNumber) -> Result<Name, Memory>
         requires node { IsShownNode self.now }
-        requires cell { cell < length (cells_of self.now.scheduled.now) }
-        ensures { IfOk result (IsWireOf self.now.outputs.now cell) }
+        requires cell { cell.0 < length (cells_of self.now.scheduled.now) }
+        ensures { IfOk result (IsWireOf self.now.outputs.now cell.0) }
     {
         let wires = self.wires;
-        Name::new(alloc, wires[cell as usize].as_str())
+        Name::new(alloc, wires[cell.0 as usize].as_str())
     }
 
     // The line of a point of the node.
     fn line(&self, alloc: Global, z: &Point) -> Result<Entry, Memory>
         requires node { IsShownNode self.now }
         requires computation { IsComputation
-            (system_of self.now.scheduled.now) self.now.node z.now }
+            (system_of self.now.scheduled.now) self.now.node.0 z.now }
         ensures { IfOk result (λ line. (line.point ≡ z.now) × IsAtLine
             (system_of self.now.scheduled.now) (placings_of self.now.scheduled.now)
             (cells_of self.now.scheduled.now) self.now.outputs.now
-            (record { node = self.now.node; entry = line })) }
+            (record { node = self.now.node.0; entry = line })) }
     {
         let located = locate(self.scheduled, self.node, z);
         Ok(Entry {
@@ -126,9 +128,9 @@ impl ShownNode<'_, '_> {
 fn add_lines(alloc: Global, shown: &ShownNode, lines: &mut List<Entry>) -> Result<(), Memory>
     requires node { IsShownNode shown.now }
     requires old { AreLinesBelow
-        shown.now.scheduled.now shown.now.outputs.now shown.now.node lines.old }
+        shown.now.scheduled.now shown.now.outputs.now shown.now.node.0 lines.old }
     ensures { OnOk result (AreLinesBelow
-        shown.now.scheduled.now shown.now.outputs.now (shown.now.node + 1) lines.new) }
+        shown.now.scheduled.now shown.now.outputs.now (shown.now.node.0 + 1) lines.new) }
 {
     let points = node_points(alloc, shown.scheduled.timed(), shown.node)?;
     for z in points.as_slice() {
@@ -153,7 +155,7 @@ pub(crate) fn at_lines(
     let wires = names.as_slice();
     let mut lines = List::new(alloc);
     for node in 0..scheduled.node_count() {
-        let var = scheduled.variable(node);
+        let var = scheduled.variable(Node(node));
         if !is_shown(var.kind) {
             continue;
         }
@@ -161,7 +163,7 @@ pub(crate) fn at_lines(
             scheduled,
             outputs,
             wires,
-            node,
+            node: Node(node),
             var,
         };
         add_lines(alloc, &shown, &mut lines)?;

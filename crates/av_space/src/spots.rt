@@ -9,19 +9,19 @@ use crate::apart::slots_in;
 use crate::array::Array;
 use crate::layout::Slot;
 use crate::linking::piece_at;
+use crate::numbers::CellNumber;
 use crate::tap::Pipeline;
 use crate::tapping::{ReferenceAt, helper_at, same};
 use av_base::{List, Memory};
-use av_flat::{Helper, Piece, ReadingPlace, Tree, Var, tree_places};
+use av_flat::{Helper, Node, Piece, ReadingPlace, Tree, Var, VariablePlace, tree_places};
 use std::alloc::Global;
 
 /// A piece of the variable of a cell's node, by its number, with its computations on the cell by cycle.
 #[derive(Drop)]
 pub struct Spot<'a> {
-    pub cell: usize,
-    pub node: usize,
-    /// Of the variable among all variables.
-    pub place: usize,
+    pub cell: CellNumber,
+    pub node: Node,
+    pub place: VariablePlace,
     pub var: &'a Var,
     pub number: usize,
     pub piece: &'a Piece,
@@ -57,13 +57,13 @@ pub fn ends_of(slots: &[Slot]) -> Ends
 // A piece on a cell, by its number.
 #[derive(Clone, Copy)]
 struct PieceOn {
-    cell: usize,
+    cell: CellNumber,
     number: usize,
 }
 
 // The helper of a place that is a reference, of the variable at the place `own`.
-fn pipeline(helpers: &[Helper], own: usize, place: &ReadingPlace<'_>) -> Option<Pipeline>
-    ensures { result ≡ pipeline_by helpers.now own (place_of place.now) (view place.now.tree) }
+fn pipeline(helpers: &[Helper], own: VariablePlace, place: &ReadingPlace<'_>) -> Option<Pipeline>
+    ensures { result ≡ pipeline_by helpers.now own.0 (place_of place.now) (view place.now.tree) }
 {
     match place.tree {
         Tree::Ref { .. } => helper_at(
@@ -84,24 +84,24 @@ impl<'a> Array<'a> {
     ghost use Rattle.av_space.specs.inner.SpotTaps.{IsVariableOn, HasPiece};
 
     // The variable of the node of a cell.
-    fn variable(&self, cell: usize) -> &'a Var
+    fn variable(&self, cell: CellNumber) -> &'a Var
         requires array { IsArray self.now }
-        requires cell { cell < length (cells_of self.now) }
-        ensures { IsVariableOn self.now cell (view_variable result.now) }
+        requires cell { cell.0 < length (cells_of self.now) }
+        ensures { IsVariableOn self.now cell.0 (view_variable result.now) }
     {
-        let node = self.layout.cells.as_slice()[cell].node as usize;
-        self.nodes.variable(node)
+        let node = self.layout.cells.as_slice()[cell.0 as usize].node as usize;
+        self.nodes.variable(Node(node))
     }
 
     // The piece with this number on a cell.
     fn spot(&self, alloc: Global, on: PieceOn) -> Result<Spot<'a>, Memory>
         requires array { IsArray self.now }
-        requires cell { on.cell < length (cells_of self.now) }
-        requires piece { HasPiece self.now on.cell on.number }
+        requires cell { on.cell.0 < length (cells_of self.now) }
+        requires piece { HasPiece self.now on.cell.0 on.number }
         ensures { IfOk result (λ at.
-            (at.cell ≡ on.cell) × (at.number ≡ on.number) × IsSpot self.now at) }
+            (at.cell.0 ≡ on.cell.0) × (at.number ≡ on.number) × IsSpot self.now at) }
     {
-        let node = self.layout.cells.as_slice()[on.cell].node as usize;
+        let node = Node(self.layout.cells.as_slice()[on.cell.0 as usize].node as usize);
         let place = self.nodes.place(node);
         let var = self.variable(on.cell);
         let piece = piece_at(var, on.number);
@@ -118,10 +118,10 @@ impl<'a> Array<'a> {
     }
 
     /// The pieces with a computation on a cell, by their numbers.
-    pub fn spots(&self, alloc: Global, cell: usize) -> Result<List<Spot<'a>>, Memory>
+    pub fn spots(&self, alloc: Global, cell: CellNumber) -> Result<List<Spot<'a>>, Memory>
         requires array { IsArray self.now }
-        requires cell { cell < length (cells_of self.now) }
-        ensures { IfOk result (AreSpots self.now cell) }
+        requires cell { cell.0 < length (cells_of self.now) }
+        ensures { IfOk result (AreSpots self.now cell.0) }
     {
         let mut spots = List::new(alloc);
         for number in 0..self.variable(cell).pieces.as_slice().len() {

@@ -4,28 +4,29 @@ ghost use Rattle.std.specs.Prelude.{◌≡◌, ◌↔◌, [], ◌∷◌, ◌++�
 ghost use Rattle.av_space.specs.inner.Stretches.{HasLinks, IsAt, Told, AreByCycle};
 
 use crate::cells::Link;
+use crate::numbers::CellNumber;
 use av_base::{List, Memory};
 
 /// In this cycle a tap site reads what the producer had some cycles before.
 #[derive(Clone, Copy, Debug, PartialEq, Eq)]
 pub struct TapReading {
     pub cycle: u32,
-    pub producer: u32,
+    pub producer: CellNumber,
     pub delay: u32,
 }
 
 /// A tap site on a cell: the cell, which reads, and the number of the site among those of its node.
 #[derive(Clone, Copy)]
 pub(crate) struct TapAt {
-    pub(crate) consumer: u32,
+    pub(crate) consumer: CellNumber,
     pub(crate) site: u32,
 }
 
 // The link that begins with a reading.
 fn begun(at: TapAt, reading: &TapReading) -> Link
     ensures { result ≡ record {
-      consumer = at.consumer;
-      producer = reading.now.producer;
+      consumer = at.consumer.0;
+      producer = reading.now.producer.0;
       site = at.site;
       delay = reading.now.delay;
       first = reading.now.cycle;
@@ -33,8 +34,8 @@ fn begun(at: TapAt, reading: &TapReading) -> Link
     } }
 {
     Link {
-        consumer: at.consumer,
-        producer: reading.producer,
+        consumer: at.consumer.0,
+        producer: reading.producer.0,
         site: at.site,
         delay: reading.delay,
         first: reading.cycle,
@@ -44,10 +45,10 @@ fn begun(at: TapAt, reading: &TapReading) -> Link
 
 // Whether the reading has the producer and the delay of the link.
 fn continues(link: &Link, reading: &TapReading) -> bool
-    ensures { IsTrue result ↔ ((reading.now.producer ≡ link.now.producer)
+    ensures { IsTrue result ↔ ((reading.now.producer.0 ≡ link.now.producer)
         × (reading.now.delay ≡ link.now.delay)) }
 {
-    reading.producer == link.producer && reading.delay == link.delay
+    reading.producer.0 == link.producer && reading.delay == link.delay
 }
 
 // The link up to a later cycle.
@@ -68,7 +69,7 @@ pub(crate) fn site_links(
 ) -> Result<(), Memory>
     requires { AreByCycle readings.now }
     ensures { OnOk result
-        (HasLinks (Told readings.now) (IsAt at.consumer at.site) links.old links.new) }
+        (HasLinks (Told readings.now) (IsAt at.consumer.0 at.site) links.old links.new) }
 {
     let Some((first, rest)) = readings.split_first() else {
         return Ok(());

@@ -9,28 +9,28 @@ ghost use Rattle.av_space.specs.inner.Sites.{tap_of, taps_where};
 use crate::tap::{Pipeline, TapSite, Way};
 use av_base::{List, Memory, Point};
 use av_depend::is_computed_at;
-use av_flat::{Helper, ReadingPlace, Timed, Tree, Var, piece_places};
+use av_flat::{Helper, ReadingPlace, SiteNumber, Timed, Tree, Var, VariablePlace, piece_places};
 use std::alloc::Global;
 
 /// A reference of a system: its variable, by the place among all variables, its piece, and its number in the piece.
 #[derive(Clone, Copy)]
 pub(crate) struct ReferenceAt {
-    pub(crate) place: usize,
+    pub(crate) place: VariablePlace,
     pub(crate) piece: usize,
-    pub(crate) site: u32,
+    pub(crate) site: SiteNumber,
 }
 
 // Whether the helper is of this reference.
 fn is_of(helper: &Helper, at: ReferenceAt) -> bool
-    ensures { result ≡ nat_eq helper.now.var at.place
-        && nat_eq helper.now.piece at.piece && nat_eq helper.now.site at.site }
+    ensures { result ≡ nat_eq helper.now.var at.place.0
+        && nat_eq helper.now.piece at.piece && nat_eq helper.now.site at.site.0 }
 {
-    helper.var as usize == at.place && helper.piece as usize == at.piece && helper.site == at.site
+    helper.var == at.place.0 && helper.piece as usize == at.piece && helper.site == at.site.0
 }
 
 /// The first helper of a reference.
 pub(crate) fn helper_at(helpers: &[Helper], at: ReferenceAt) -> Option<Pipeline>
-    ensures { result ≡ helper_at helpers.now at.place at.piece at.site }
+    ensures { result ≡ helper_at helpers.now at.place.0 at.piece at.site.0 }
 {
     for (number, helper) in helpers.iter().enumerate() {
         if is_of(helper, at) {
@@ -88,12 +88,12 @@ fn add_taps_by<'a>(
 // Appends the tap sites of a place of the variable at the place `own`.
 fn add_taps<'a>(
     timed: &Timed,
-    own: usize,
+    own: VariablePlace,
     place: &ReadingPlace<'a>,
     sites: &mut List<TapSite<'a>>,
 ) -> Result<(), Memory>
     ensures { OnOk result (map tap_of sites.new ≡ map tap_of sites.old ++ taps_at (view_system
-        timed.now.flat) timed.now.helpers own (view place.now.tree) (place_of place.now)) }
+        timed.now.flat) timed.now.helpers own.0 (view place.now.tree) (place_of place.now)) }
 {
     match place.tree {
         Tree::Ref { var, .. } => {
@@ -104,21 +104,31 @@ fn add_taps<'a>(
                 site: place.site,
             };
             let pipeline = helper_at(helpers, at);
-            add_taps_by(is_computed_at(&timed.flat, *var), pipeline, place, sites)
+            add_taps_by(
+                is_computed_at(&timed.flat, VariablePlace(*var)),
+                pipeline,
+                place,
+                sites,
+            )
         }
         Tree::Pick { var, .. } => {
-            add_taps_by(is_computed_at(&timed.flat, *var), None, place, sites)
+            add_taps_by(
+                is_computed_at(&timed.flat, VariablePlace(*var)),
+                None,
+                place,
+                sites,
+            )
         }
         _ => Ok(()),
     }
 }
 
 // Whether the place is a pick of the variable at the place `own`.
-fn is_own(own: usize, place: &ReadingPlace<'_>) -> bool
-    ensures { result ≡ is_own own (view place.now.tree) }
+fn is_own(own: VariablePlace, place: &ReadingPlace<'_>) -> bool
+    ensures { result ≡ is_own own.0 (view place.now.tree) }
 {
     match place.tree {
-        Tree::Pick { var, .. } => *var as usize == own,
+        Tree::Pick { var, .. } => *var == own.0,
         _ => false,
     }
 }
@@ -126,13 +136,13 @@ fn is_own(own: usize, place: &ReadingPlace<'_>) -> bool
 // Appends the tap sites of those places that are picks of the variable itself, or of those that are not.
 fn add_taps_of<'a>(
     timed: &Timed,
-    own: usize,
+    own: VariablePlace,
     picks: bool,
     places: &[ReadingPlace<'a>],
     sites: &mut List<TapSite<'a>>,
 ) -> Result<(), Memory>
     ensures { OnOk result (map tap_of sites.new ≡ map tap_of sites.old ++ taps_where
-        (view_system timed.now.flat) timed.now.helpers own picks (map place_of places.now)) }
+        (view_system timed.now.flat) timed.now.helpers own.0 picks (map place_of places.now)) }
 {
     for place in places {
         if is_own(own, place) == picks {
@@ -146,11 +156,11 @@ fn add_taps_of<'a>(
 pub(crate) fn taps_of<'a>(
     alloc: Global,
     timed: &'a Timed,
-    own: usize,
+    own: VariablePlace,
     var: &'a Var,
 ) -> Result<List<TapSite<'a>>, Memory>
     ensures { IfOk result (λ sites. map tap_of sites
-        ≡ taps (view_system timed.now.flat) timed.now.helpers own (view_variable var.now)) }
+        ≡ taps (view_system timed.now.flat) timed.now.helpers own.0 (view_variable var.now)) }
 {
     let places = piece_places(alloc, var.pieces.as_slice())?;
     let mut sites = List::new(alloc);

@@ -6,7 +6,7 @@ ghost use Rattle.av_flat.specs.Nodes.{nodes, node_place, number_at};
 ghost use Rattle.av_flat.specs.Trees.{view_system, view_variable};
 
 use av_base::Memory;
-use av_flat::{Nodes, Time, Timed, Var};
+use av_flat::{Node, Nodes, Time, Timed, Var, VariablePlace};
 use std::alloc::Global;
 use std::marker::Model;
 
@@ -59,12 +59,12 @@ impl<'a> TimedNodes<'a> {
     }
 
     /// The time of a node.
-    pub(crate) fn time(&self, node: usize) -> &'a Time
-        requires { node < length (nodes (view_system self.now.flat)) }
-        ensures is { slice_get self.now.times node ≡ Some result.now }
+    pub(crate) fn time(&self, node: Node) -> &'a Time
+        requires { node.0 < length (nodes (view_system self.now.flat)) }
+        ensures is { slice_get self.now.times node.0 ≡ Some result.now }
         ensures legal { IsLegal self.now }
     {
-        &self.timed.times.as_slice()[node]
+        &self.timed.times.as_slice()[node.0]
     }
 
     /// How many nodes there are.
@@ -77,25 +77,25 @@ impl<'a> TimedNodes<'a> {
     }
 
     /// The number of the node at a place of the variables.
-    pub(crate) fn number(&self, place: u32) -> usize
-        requires { place < length self.now.flat.vars }
-        ensures { result ≡ number_at (view_system self.now.flat) place }
+    pub(crate) fn number(&self, place: VariablePlace) -> Node
+        requires { place.0 < length self.now.flat.vars }
+        ensures { result.0 ≡ number_at (view_system self.now.flat) place.0 }
     {
-        self.nodes.number(place as usize)
+        self.nodes.number(place)
     }
 
     /// The place of a node among the variables.
-    pub(crate) fn place(&self, node: usize) -> usize
-        requires { node < length (nodes (view_system self.now.flat)) }
-        ensures { result ≡ node_place (view_system self.now.flat) node }
+    pub(crate) fn place(&self, node: Node) -> VariablePlace
+        requires { node.0 < length (nodes (view_system self.now.flat)) }
+        ensures { result.0 ≡ node_place (view_system self.now.flat) node.0 }
     {
         self.nodes.place(node)
     }
 
     /// The variable of a node.
-    pub(crate) fn variable(&self, node: usize) -> &'a Var
-        requires { node < length (nodes (view_system self.now.flat)) }
-        ensures is { slice_get (nodes (view_system self.now.flat)) node
+    pub(crate) fn variable(&self, node: Node) -> &'a Var
+        requires { node.0 < length (nodes (view_system self.now.flat)) }
+        ensures is { slice_get (nodes (view_system self.now.flat)) node.0
             ≡ Some (view_variable result.now) }
         ensures legal { IsLegal self.now }
     {

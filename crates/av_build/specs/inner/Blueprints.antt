@@ -23,7 +23,7 @@ abbrev pub seen : ArrayMade → Array
 seen w = record { system = system_of w; helpers = helpers_of w; times = placings_of w; cells = cells_of w; links = w.cells.now.links; ports = w.cells.now.inputs }
 
 abbrev pub spot_of : SpotMade → Spot
-spot_of at = record { cell = at.cell; node = at.node; variable = view_variable at.var.now; number = at.number; piece = view_piece at.piece.now }
+spot_of at = record { cell = at.cell.0; node = at.node.0; variable = view_variable at.var.now; number = at.number; piece = view_piece at.piece.now }
 
 -- the pieces on a cell with their computations
 abbrev pub spots_on : ArrayMade → Pieces → List SpotMade
@@ -57,10 +57,10 @@ helpers_on pieces = helpers_from 0 pieces.sites
 -- ---- lanes: of each cell those of its helpers, and then that of its value
 
 abbrev pub of_helper : ℕ → HelperPlan → LanePlan
-of_helper p h = record { cell = p; helper = Some h }
+of_helper p h = record { cell = record { 0 = p }; helper = Some h }
 
 abbrev pub own_lanes : ℕ → Pieces → List LanePlan
-own_lanes p pieces = map (of_helper p) (helpers_on pieces) ++ record { cell = p; helper = None } ∷ []
+own_lanes p pieces = map (of_helper p) (helpers_on pieces) ++ record { cell = record { 0 = p }; helper = None } ∷ []
 
 -- of the cells from the p-th on
 abbrev pub lanes_from : ℕ → List CellPlan → List LanePlan
@@ -125,7 +125,7 @@ pub record HasHelper (b : Blueprint) (p j : ℕ) : Type 0 where
 -- the piece is one of those on its cell, with its places
 pub record IsSpotOn (b : Blueprint) (at : SpotMade) (sites : List Site) : Type 0 where
   pub plan : CellPlan
-  pub is_plan : slice_get b.cells at.cell ≡ Some plan
+  pub is_plan : slice_get b.cells at.cell.0 ≡ Some plan
   pub number : ℕ
   pub is_spot : slice_get (spots_on b.array plan.pieces) number ≡ Some at
   pub are_sites : slice_get plan.pieces.sites number ≡ Some sites

@@ -51,11 +51,11 @@ pub record IsPipeSite (b : Blueprint) (at : Spot) (j : ℕ) (site : ProgramSite)
 -- what brings the word of a place to the value of a cell
 abbrev pub IsValueSite : Blueprint → Counter → SpotMade → Site → ProgramSite → Type 0
 IsValueSite b counter at place site =
-    (plan : CellPlan) → slice_get b.cells at.cell ≡ Some plan → IsPlaceSite (seen b.array) (count_in counter) (lanes_of b.cells) plan.lanes.first (spot_of at) place.place.site (view place.place.tree) site
+    (plan : CellPlan) → slice_get b.cells at.cell.0 ≡ Some plan → IsPlaceSite (seen b.array) (count_in counter) (lanes_of b.cells) plan.lanes.first (spot_of at) place.place.site (view place.place.tree) site
 
 -- the work of a piece
 abbrev pub IsValueWork : Blueprint → Counter → SpotMade → Work → Type 0
-IsValueWork b counter at work = (plan : CellPlan) → slice_get b.cells at.cell ≡ Some plan → IsWorkFor (seen b.array) (count_in counter) (lanes_of b.cells) plan.lanes.first (spot_of at) work
+IsValueWork b counter at work = (plan : CellPlan) → slice_get b.cells at.cell.0 ≡ Some plan → IsWorkFor (seen b.array) (count_in counter) (lanes_of b.cells) plan.lanes.first (spot_of at) work
 
 -- the number of a piece on a cell
 abbrev pub HasPiece : Blueprint → ℕ → ℕ → Type 0
@@ -65,7 +65,7 @@ HasPiece b p k = (plan : CellPlan) × (slice_get b.cells p ≡ Some plan) × (k 
 abbrev pub IsValueMode : Blueprint → Counter → ℕ → ℕ → Mode → Type 0
 IsValueMode b counter p k mode =
     (plan : CellPlan) (at : SpotMade) → slice_get b.cells p ≡ Some plan → slice_get (spots_on b.array plan.pieces) k ≡ Some at
-    → IsValueWork b counter at mode.work × IsModeFor (seen b.array) (count_in counter) p (λ m z. m ≡ at.node) (λ m z. IsTrue (has at.piece.now.domain z)) mode
+    → IsValueWork b counter at mode.work × IsModeFor (seen b.array) (count_in counter) p (λ m z. m ≡ at.node.0) (λ m z. IsTrue (has at.piece.now.domain z)) mode
 
 -- the lane of a helper on the cell p, but for what its modes are
 pub record IsHelperFrame (b : Blueprint) (p : ℕ) (at : SpotMade) (j : ℕ) (lane : Lane) : Type 0 where
@@ -77,8 +77,8 @@ pub record IsHelperFrame (b : Blueprint) (p : ℕ) (at : SpotMade) (j : ℕ) (la
 -- a lane with these modes is that of the helper
 abbrev pub AreHelperModes : Blueprint → Counter → SpotMade → HelperPlan → List Mode → Type 0
 AreHelperModes b counter at h modes =
-    (lane : Lane) → IsHelperFrame b at.cell at h.number lane → lane.modes ≡ modes → (helper : Helper) (v : Variable) (piece : Piece) (r : Reference) → IsHelper (seen b.array) h.number helper v piece r
-    → IsHelperLane (seen b.array) (count_in counter) (lanes_of b.cells) (helper_spot (seen b.array) helper v piece at.cell) h.number helper r lane
+    (lane : Lane) → IsHelperFrame b at.cell.0 at h.number lane → lane.modes ≡ modes → (helper : Helper) (v : Variable) (piece : Piece) (r : Reference) → IsHelper (seen b.array) h.number helper v piece r
+    → IsHelperLane (seen b.array) (count_in counter) (lanes_of b.cells) (helper_spot (seen b.array) helper v piece at.cell.0) h.number helper r lane
 
 -- the helper is one of a place of the piece
 pub record IsHelperOn (b : Blueprint) (at : SpotMade) (h : HelperPlan) : Type 0 where
@@ -113,7 +113,7 @@ IsBuiltBy b counter p (Some h) lane =
 -- one for each plan
 pub record AreBuilt (b : Blueprint) (counter : Counter) (plans : List LanePlan) (lanes : List LaneMade) : Type 0 where
   pub one_each : length lanes ≡ length plans
-  pub each : (q : ℕ) (plan : LanePlan) (lane : LaneMade) → slice_get plans q ≡ Some plan → slice_get lanes q ≡ Some lane → IsBuiltBy b counter plan.cell plan.helper (lane_of lane)
+  pub each : (q : ℕ) (plan : LanePlan) (lane : LaneMade) → slice_get plans q ≡ Some plan → slice_get lanes q ≡ Some lane → IsBuiltBy b counter plan.cell.0 plan.helper (lane_of lane)
 
 -- ---- the places of ports
 
@@ -147,7 +147,7 @@ pub record HasPortPlace (pieces : Pieces) (port : InPort) : Type 0 where
 
 -- on both cells stand the same pieces of one node
 abbrev pub HaveSamePieces : List SpotPlan → List SpotPlan → Type 0
-HaveSamePieces a b = (length a ≡ length b) × ((k : ℕ) (x y : SpotPlan) → slice_get a k ≡ Some x → slice_get b k ≡ Some y → (x.node ≡ y.node) × (x.number ≡ y.number))
+HaveSamePieces a b = (length a ≡ length b) × ((k : ℕ) (x y : SpotPlan) → slice_get a k ≡ Some x → slice_get b k ≡ Some y → (x.node.0 ≡ y.node.0) × (x.number ≡ y.number))
 
 -- the first cells of kinds, of which none has the pieces of the cell
 abbrev pub HasNoKind : List CellPlan → List ℕ → CellPlan → Type 0

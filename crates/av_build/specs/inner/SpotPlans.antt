@@ -22,5 +22,5 @@ spot_by w plan = record {
   var = plan.var;
   number = plan.number;
   piece = plan.piece;
-  slots = filter (λ (t : Slot). has plan.piece.now.domain t.point) (slots_by (slice_get w.layout.slots plan.cell));
+  slots = filter (λ (t : Slot). has plan.piece.now.domain t.point) (slots_by (slice_get w.layout.slots plan.cell.0));
 }

@@ -22,12 +22,12 @@ abbrev pub ArePortsOf : Scheduled → ℕ → ℕ → ℕ → Ports → Type 0
 ArePortsOf of n k p ports = ArePortsTo (system_of of) (helpers_of of) (placings_of of) (cells_of of) n k 0 p ports
 
 abbrev pub ArePortsAt : NodePiece → ℕ → ℕ → Ports → Type 0
-ArePortsAt at j p ports = ArePortsTo (system_of at.scheduled.now) (helpers_of at.scheduled.now) (placings_of at.scheduled.now) (cells_of at.scheduled.now) at.node at.number j p ports
+ArePortsAt at j p ports = ArePortsTo (system_of at.scheduled.now) (helpers_of at.scheduled.now) (placings_of at.scheduled.now) (cells_of at.scheduled.now) at.node.0 at.number j p ports
 
 -- the cells of a node are those from the first on and before the last
 pub record AreCellsOf (cells : List Cell) (of : NodeCells) : Type 0 where
-  pub first : IsFirstOf cells of.node of.first
-  pub last : IsFirstOf cells (of.node + 1) of.last
+  pub first : IsFirstOf cells of.node.0 of.first
+  pub last : IsFirstOf cells (of.node.0 + 1) of.last
   pub ordered : of.first ≤ of.last
   pub within : of.last ≤ length cells
 
@@ -43,10 +43,10 @@ pub record AreOwnSlots (rows : List (List Slot)) (set : Set) (first last : ℕ) 
 pub record IsNodePiece (at : NodePiece) : Type 0 where
   pub scheduled : IsScheduled at.scheduled.now
   pub variable : Variable
-  pub is_variable : slice_get (nodes (system_of at.scheduled.now)) at.node ≡ Some variable
+  pub is_variable : slice_get (nodes (system_of at.scheduled.now)) at.node.0 ≡ Some variable
   pub is_piece : slice_get variable.pieces at.number ≡ Some (view_piece at.piece.now)
-  pub first : IsFirstOf (cells_of at.scheduled.now) at.node at.first
-  pub last : IsFirstOf (cells_of at.scheduled.now) (at.node + 1) at.last
+  pub first : IsFirstOf (cells_of at.scheduled.now) at.node.0 at.first
+  pub last : IsFirstOf (cells_of at.scheduled.now) (at.node.0 + 1) at.last
   pub ordered : at.first ≤ at.last
   pub within : at.last ≤ length (cells_of at.scheduled.now)
   pub own : AreOwnSlots at.scheduled.now.layout.slots at.piece.now.domain at.first at.last at.own
@@ -60,7 +60,7 @@ pub record IsPart (at : NodePiece) (j : ℕ) (t : Tree) : Type 0 where
 -- the reference with this number in the piece
 pub record IsInputSite (at : NodePiece) (j : ℕ) (site : InputSite) : Type 0 where
   pub domain : site.domain.now ≡ at.piece.now.domain
-  pub direction : site.direction ≡ direction_of (helper_at (helpers_of at.scheduled.now) (node_place (system_of at.scheduled.now) at.node) at.number j)
+  pub direction : site.direction ≡ direction_of (helper_at (helpers_of at.scheduled.now) (node_place (system_of at.scheduled.now) at.node.0) at.number j)
   pub place : ℕ
   pub is_reference : slice_get (references (view_piece at.piece.now).tree) j ≡ Some (record { place = place; map = site.map.now })
   pub is_read : slice_get (system_of at.scheduled.now).variables place ≡ Some (view_variable site.input.now)

@@ -17,7 +17,7 @@ use Rattle.av_space.specs.Occupancy.{Computes}
 use Rattle.av_space.specs.Taps.{Way, each, entries, handed, Tap, taps, IsTapRead}
 use Rattle.av_space.specs.Layouts.{AreSlots}
 use Rattle.av_space.specs.inner.Scheduled.{Scheduled, IsScheduled, system_of, placings_of, cells_of}
-use Rattle.av_space.specs.inner.Stretches.{AreByCycle}
+use Rattle.av_space.specs.inner.Stretches.{AreByCycle, tap_reading}
 
 -- ---- sites
 
@@ -85,8 +85,8 @@ pub record IsReadingOf (s : FlatSystem) (placings : List Placing) (cells : List 
 
 -- all readings for which R holds, by cycle
 pub record AreReadings (R : ℕ → ℕ → ℕ → Type 0) (readings : List TapReading) : Type 0 where
-  pub each : All (λ r. R r.cycle r.producer r.delay) readings
-  pub all : (c q d : ℕ) → R c q d → Contains readings (record { cycle = c; producer = q; delay = d })
+  pub each : All (λ r. R r.cycle r.producer.0 r.delay) readings
+  pub all : (c q d : ℕ) → R c q d → Contains readings (tap_reading c q d)
   pub order : AreByCycle readings
 
 -- the cell p of the node n of this variable, with its computations
@@ -100,7 +100,7 @@ pub record IsConsumer (s : FlatSystem) (placings : List Placing) (cells : List C
 -- a cell of a scheduled system that reads
 pub record IsReader (at : Scheduled) (c : Consumer) : Type 0 where
   pub scheduled : IsScheduled at
-  pub is : IsConsumer (system_of at) (placings_of at) (cells_of at) c.number c.node (view_variable c.var.now) c.slots.now
+  pub is : IsConsumer (system_of at) (placings_of at) (cells_of at) c.number.0 c.node.0 (view_variable c.var.now) c.slots.now
 
 -- of each of the first pieces of a variable the computations that are points of it
 pub record AreOwnTo (v : Variable) (slots : List Slot) (n : ℕ) (own : List (List Slot)) : Type 0 where

@@ -23,7 +23,7 @@ pub record IsShownNode (shown : ShownNode) : Type 0 where
   pub scheduled : IsScheduled shown.scheduled.now
   pub outputs : shown.outputs.now ≡ output_cells (system_of shown.scheduled.now) (cells_of shown.scheduled.now)
   pub wires : AreWires shown.outputs.now (length (cells_of shown.scheduled.now)) shown.wires.now
-  pub is_variable : slice_get (nodes (system_of shown.scheduled.now)) shown.node ≡ Some (view_variable shown.var.now)
+  pub is_variable : slice_get (nodes (system_of shown.scheduled.now)) shown.node.0 ≡ Some (view_variable shown.var.now)
   pub is_shown : IsTrue (is_shown shown.var.now.kind)
 
 -- the lines of the points of nodes for which this holds

@@ -31,7 +31,7 @@ pub record HasPiece (a : Array) (p number : ℕ) : Type 0 where
 -- a tap site of a piece on a cell
 pub record IsSpotTap (a : Array) (at : Spot) (tap : Tap) : Type 0 where
   pub number : ℕ
-  pub is_tap : slice_get (taps (system_of a) (helpers_of a) (node_place (system_of a) at.node) (view_variable at.var.now)) number ≡ Some tap
+  pub is_tap : slice_get (taps (system_of a) (helpers_of a) (node_place (system_of a) at.node.0) (view_variable at.var.now)) number ≡ Some tap
   pub piece_is : tap.place.piece ≡ at.number
 
 -- the tap of a place with its helper
@@ -42,7 +42,7 @@ own_tap p h = record { place = p; way = own_way h }
 pub record IsReadThere (a : Array) (at : Spot) (tap : Tap) (slot : Slot) : Type 0 where
   pub node : ℕ
   pub point : Point
-  pub reads : IsTapRead (system_of a) at.node tap.place.tree tap.way (view_piece at.piece.now) slot.point node point
+  pub reads : IsTapRead (system_of a) at.node.0 tap.place.tree tap.way (view_piece at.piece.now) slot.point node point
 
 -- it reads at a computation, and a link brings what it reads from the cell q, with the delay d
 abbrev pub IsReadOver : Array → Spot → Tap → Slot → ℕ → ℕ → Type 0

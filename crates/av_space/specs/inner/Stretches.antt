@@ -51,8 +51,11 @@ IsAmong p j k i = (k ≡ p) × (i < j)
 abbrev pub IsAt : ℕ → ℕ → ℕ → ℕ → Type 0
 IsAt p j k i = (k ≡ p) × (i ≡ j)
 
+abbrev pub tap_reading : ℕ → ℕ → ℕ → TapReading
+tap_reading c q d = record { cycle = c; producer = record { 0 = q }; delay = d }
+
 abbrev pub Told : List TapReading → ℕ → ℕ → ℕ → ℕ → ℕ → Type 0
-Told readings p j c q d = Contains readings (record { cycle = c; producer = q; delay = d })
+Told readings p j c q d = Contains readings (tap_reading c q d)
 
 abbrev pub AreByCycle : List TapReading → Type 0
 AreByCycle readings = AllPairs (λ a b. a.cycle < b.cycle) readings

@@ -12,8 +12,8 @@ returns-clause-value c =
     let n = c.loop-helper.helper-index in
     let end = c.loop-helper-test.false in
     let many = ap (λ (l : List HelperPlan). length l) c.as_slice-helper-items.ensures in
-    let whole = whole_cell c.args.cell c.in_ok-pieces.pieces helpers c.args.lanes.now c.loop-helper.lanes c.push-2.new.self n c.in_ok-helpers.ensures (omega (arith, end, many))
-    (c.loop-helper.invariant ∙ ap (λ (l : List HelperPlan). c.args.lanes.now ++ map (of_helper c.args.cell) (take n l)) c.as_slice-helper-items.ensures) c.in_ok-push-2.ensures.ok in
+    let whole = whole_cell c.args.cell.0 c.in_ok-pieces.pieces helpers c.args.lanes.now c.loop-helper.lanes c.push-2.new.self n c.in_ok-helpers.ensures (omega (arith, end, many))
+    (c.loop-helper.invariant ∙ ap (λ (l : List HelperPlan). c.args.lanes.now ++ map (of_helper c.args.cell.0) (take n l)) c.as_slice-helper-items.ensures) c.in_ok-push-2.ensures.ok in
     ap (λ (l : List LanePlan). length l) c.as_slice-value.ensures ∙ whole.1
 
 pub returns-clause-lanes : goal.returns-clause-lanes
@@ -22,8 +22,8 @@ returns-clause-lanes c =
     let n = c.loop-helper.helper-index in
     let end = c.loop-helper-test.false in
     let many = ap (λ (l : List HelperPlan). length l) c.as_slice-helper-items.ensures in
-    let whole = whole_cell c.args.cell c.in_ok-pieces.pieces helpers c.args.lanes.now c.loop-helper.lanes c.push-2.new.self n c.in_ok-helpers.ensures (omega (arith, end, many))
-    (c.loop-helper.invariant ∙ ap (λ (l : List HelperPlan). c.args.lanes.now ++ map (of_helper c.args.cell) (take n l)) c.as_slice-helper-items.ensures) c.in_ok-push-2.ensures.ok in
+    let whole = whole_cell c.args.cell.0 c.in_ok-pieces.pieces helpers c.args.lanes.now c.loop-helper.lanes c.push-2.new.self n c.in_ok-helpers.ensures (omega (arith, end, many))
+    (c.loop-helper.invariant ∙ ap (λ (l : List HelperPlan). c.args.lanes.now ++ map (of_helper c.args.cell.0) (take n l)) c.as_slice-helper-items.ensures) c.in_ok-push-2.ensures.ok in
     whole.0
 
 pub loop-helper-preserved : goal.loop-helper-preserved

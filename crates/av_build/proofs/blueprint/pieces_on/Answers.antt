@@ -22,9 +22,9 @@ returns c =
     let w = c.args.array.now in
     let spots = c.in_ok-spots.spots in
     let again : map (spot_by w) c.in_ok-plans.plans ≡ spots =
-    ap (map (spot_by w)) (c.in_ok-plans.ensures ∙ ap (map plan_of) c.as_slice.ensures) ∙ spots_again w c.requires.array c.args.cell spots c.in_ok-spots.ensures.each in
+    ap (map (spot_by w)) (c.in_ok-plans.ensures ∙ ap (map plan_of) c.as_slice.ensures) ∙ spots_again w c.requires.array c.args.cell.0 spots c.in_ok-spots.ensures.each in
     record {
-      spots = subst (AreSpots w c.args.cell) (sym again) c.in_ok-spots.ensures;
+      spots = subst (AreSpots w c.args.cell.0) (sym again) c.in_ok-spots.ensures;
       one_each = all.0 ∙ ap (λ (l : List Spot). length l) (sym again);
       sites = λ k spot own is_spot is_own. all.1 k spot own (ap (λ (l : List Spot). slice_get l k) (sym again) ∙ is_spot) is_own;
     }

@@ -13,14 +13,14 @@ use Rattle.av_build.proofs.SpotsAgain.{same_slots}
 use Rattle.av_build.proofs.spots.planned_spot.Goals as goal
 
 pub slots-requires-clause-cell : goal.slots-requires-clause-cell
-slots-requires-clause-cell c = in_range (cells_of c.args.array.now) c.args.plan.now.cell c.requires.spot.cell c.requires.spot.is_cell
+slots-requires-clause-cell c = in_range (cells_of c.args.array.now) c.args.plan.now.cell.0 c.requires.spot.cell c.requires.spot.is_cell
 
 pub slots_in-requires : goal.slots_in-requires
 slots_in-requires c =
     let w = c.args.array.now in
     let plan = c.args.plan.now in
     let spot = c.requires.spot in
-    slot_points w.timed.now w.layout plan.cell (view_variable plan.var.now) c.slots.result.now c.requires.array.legal
+    slot_points w.timed.now w.layout plan.cell.0 (view_variable plan.var.now) c.slots.result.now c.requires.array.legal
     (record { cell = spot.cell; is_cell = spot.is_cell; is_variable = ap (slice_get (nodes (system_of w))) spot.node ∙ spot.is_variable; are_slots = c.slots.ensures }) plan.number (view_piece plan.piece.now) spot.is_piece
 
 pub returns : goal.returns
@@ -30,6 +30,6 @@ returns c =
     let spot = c.requires.spot in
     let set = plan.piece.now.domain in
     let found = filter (λ (t : Slot). has set t.point) c.slots.result.now in
-    let own = subst (λ n. AreSlotsIn w plan.cell n set found) spot.node (some_slots w plan.cell spot.cell set c.slots.result.now spot.is_cell c.slots.ensures) in
-    let same = same_slots w plan.cell plan.node set found (spot_by w plan).slots own spot.are_slots in
+    let own = subst (λ n. AreSlotsIn w plan.cell.0 n set found) spot.node (some_slots w plan.cell.0 spot.cell set c.slots.result.now spot.is_cell c.slots.ensures) in
+    let same = same_slots w plan.cell.0 plan.node.0 set found (spot_by w plan).slots own spot.are_slots in
     ap (λ (l : List Slot). record { cell = plan.cell; node = plan.node; place = plan.place; var = plan.var; number = plan.number; piece = plan.piece; slots = l }) (c.in_ok-slots.ensures ∙ same)

@@ -24,7 +24,7 @@ pub returns : goal.returns
 returns c =
     let t = c.args.timed.now in
     let all = c.args.placements.now in
-    let n = c.args.node in
+    let n = c.args.node.0 in
     let ps = c.as_slice.result.now in
     let p = c.index-as_slice-node.result in
     let m = placings_number t all c.len-count.ensures.legal c.requires.placings in

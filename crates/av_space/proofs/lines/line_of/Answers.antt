@@ -54,5 +54,5 @@ returns c =
     let made = c.site_at.result.now in
     let there : slice_get own l.site ≡ Some made = ap (λ (ts : List TapMade). slice_get ts l.site) (sym c.as_slice.ensures) ∙ c.site_at.ensures in
     let one : tap_of made ≡ r.tap = some_is (tap_of made) r.tap (sym (get_mapped tap_of own l.site made there) ∙ here) in
-    ap (λ h. record { cell = l.producer; helper = h })
+    ap (λ h. record { cell = record { 0 = l.producer }; helper = h })
     (c.helper.ensures ∙ ap (λ (u : Tap). helper_of u.way) one ∙ sym (tapped_helper s hs c.args.scheduled.now.layout.placements c.args.scheduled.now.layout.cells l.consumer l.site l.first l.producer l.delay r))

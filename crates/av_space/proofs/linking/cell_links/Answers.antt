@@ -19,7 +19,7 @@ tap_links-requires-clause-site c =
 
 pub loop-number-preserved : goal.loop-number-preserved
 loop-number-preserved c =
-    among_more (IsTapped (view_system c.args.scheduled.now.timed.flat) c.args.scheduled.now.timed.helpers c.args.scheduled.now.layout.placements c.args.scheduled.now.layout.cells) c.args.consumer.now.number c.loop-number.number
+    among_more (IsTapped (view_system c.args.scheduled.now.timed.flat) c.args.scheduled.now.timed.helpers c.args.scheduled.now.layout.placements c.args.scheduled.now.layout.cells) c.args.consumer.now.number.0 c.loop-number.number
     c.args.links.now c.loop-number.links c.tap_links.new.links c.loop-number.invariant c.in_ok-tap_links.ensures
 
 pub returns : goal.returns
@@ -28,11 +28,11 @@ returns c =
     let hs = c.args.scheduled.now.timed.helpers in
     let placings = c.args.scheduled.now.layout.placements in
     let cells = c.args.scheduled.now.layout.cells in
-    let p = c.args.consumer.now.number in
+    let p = c.args.consumer.now.number.0 in
     of_others (IsTapped s hs placings cells) (IsAmong p c.loop-number.number) (IsOn p) c.args.links.now c.loop-number.links (λ k i a. a.0)
     (λ k j i q d e t.
     let here = subst (λ (a : ℕ). IsTapped s hs placings cells a j i q d) e t in
-    let low = few_sites s hs placings cells p c.args.consumer.now.node (view_variable c.args.consumer.now.var.now) c.args.consumer.now.slots.now c.requires.consumer.is j i q d here in
+    let low = few_sites s hs placings cells p c.args.consumer.now.node.0 (view_variable c.args.consumer.now.var.now) c.args.consumer.now.slots.now c.requires.consumer.is j i q d here in
     let size = length-map c.args.sites.now tap_of in
     let many = ap (λ (ts : List Tap). length ts) c.requires.sites in
     let done : c.len-number-end.result ≤ c.loop-number.number = search rules in

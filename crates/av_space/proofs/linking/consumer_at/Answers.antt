@@ -11,14 +11,14 @@ pub variable-requires : goal.variable-requires
 variable-requires c =
     let s = view_system c.args.scheduled.now.timed.flat in
     let cells = c.cells.result.now in
-    let low : c.args.number < length cells = subst (λ (l : List Cell). c.args.number < length l) (sym c.cells.ensures.is) c.requires in
-    let l = cell_node s c.args.scheduled.now.layout.placements c.args.scheduled.now.layout.cells c.cells.ensures.scheduled.layout.are_cells c.args.number c.index-cells-number.result c.requires in
-    let same = ap (λ (l : List Cell). (get_or l c.args.number c.index-cells-number.result).node) c.cells.ensures.is in
+    let low : c.args.number.0 < length cells = subst (λ (l : List Cell). c.args.number.0 < length l) (sym c.cells.ensures.is) c.requires in
+    let l = cell_node s c.args.scheduled.now.layout.placements c.args.scheduled.now.layout.cells c.cells.ensures.scheduled.layout.are_cells c.args.number.0 c.index-cells-number.result c.requires in
+    let same = ap (λ (l : List Cell). (get_or l c.args.number.0 c.index-cells-number.result).node) c.cells.ensures.is in
     omega (arith, l, same)
 
 pub returns-clause-consumer : goal.returns-clause-consumer
 returns-clause-consumer c =
-    let k = c.args.number in
+    let k = c.args.number.0 in
     let cells = c.args.scheduled.now.layout.cells in
     let d = c.index-cells-number.result in
     let same : get_or cells k d ≡ get_or c.cells.result.now k d = ap (λ (l : List Cell). get_or l k d) (sym c.cells.ensures.is) in

@@ -16,20 +16,20 @@ use Rattle.av_space.proofs.linking.links.Goals as goal
 pub taps_of_node-own-requires : goal.taps_of_node-own-requires
 taps_of_node-own-requires c =
     let x = c.consumer_at-consumer.result in
-    let l = (taps_at_node (view_system c.args.scheduled.now.timed.flat) c.args.scheduled.now.timed.helpers c.in_ok-sites.sites (subst (λ (t : Timed). AreNodeTaps (view_system t.flat) t.helpers c.in_ok-sites.sites) c.timed.ensures.is c.in_ok-sites.ensures) x.node (view_variable x.var.now) c.consumer_at-consumer.ensures.consumer.is.is_variable []).0 in
+    let l = (taps_at_node (view_system c.args.scheduled.now.timed.flat) c.args.scheduled.now.timed.helpers c.in_ok-sites.sites (subst (λ (t : Timed). AreNodeTaps (view_system t.flat) t.helpers c.in_ok-sites.sites) c.timed.ensures.is c.in_ok-sites.ensures) x.node.0 (view_variable x.var.now) c.consumer_at-consumer.ensures.consumer.is.is_variable []).0 in
     let e = ap (λ (ts : List (List TapMade)). length ts) c.as_slice.ensures in
     omega (arith, l, e)
 
 pub cell_links-requires-clause-sites : goal.cell_links-requires-clause-sites
 cell_links-requires-clause-sites c =
     let x = c.consumer_at-consumer.result in
-    let at = (taps_at_node (view_system c.args.scheduled.now.timed.flat) c.args.scheduled.now.timed.helpers c.in_ok-sites.sites (subst (λ (t : Timed). AreNodeTaps (view_system t.flat) t.helpers c.in_ok-sites.sites) c.timed.ensures.is c.in_ok-sites.ensures) x.node (view_variable x.var.now) c.consumer_at-consumer.ensures.consumer.is.is_variable []).1 in
-    ap (λ (ts : List TapMade). map tap_of ts) (c.taps_of_node-own.ensures ∙ ap (λ (ts : List (List TapMade)). get_or ts x.node []) c.as_slice.ensures) ∙ at
+    let at = (taps_at_node (view_system c.args.scheduled.now.timed.flat) c.args.scheduled.now.timed.helpers c.in_ok-sites.sites (subst (λ (t : Timed). AreNodeTaps (view_system t.flat) t.helpers c.in_ok-sites.sites) c.timed.ensures.is c.in_ok-sites.ensures) x.node.0 (view_variable x.var.now) c.consumer_at-consumer.ensures.consumer.is.is_variable []).1 in
+    ap (λ (ts : List TapMade). map tap_of ts) (c.taps_of_node-own.ensures ∙ ap (λ (ts : List (List TapMade)). get_or ts x.node.0 []) c.as_slice.ensures) ∙ at
 
 pub slots_of_pieces-requires : goal.slots_of_pieces-requires
 slots_of_pieces-requires c =
     let x = c.consumer_at-consumer.result in
-    pieces_of_consumer c.args.scheduled.now.timed c.args.scheduled.now.layout x.number x.node (view_variable x.var.now) x.slots.now c.timed.ensures.scheduled.legal c.timed.ensures.scheduled.layout c.consumer_at-consumer.ensures.consumer.is
+    pieces_of_consumer c.args.scheduled.now.timed c.args.scheduled.now.layout x.number.0 x.node.0 (view_variable x.var.now) x.slots.now c.timed.ensures.scheduled.legal c.timed.ensures.scheduled.layout c.consumer_at-consumer.ensures.consumer.is
 
 pub cell_links-requires-clause-own : goal.cell_links-requires-clause-own
 cell_links-requires-clause-own c =

@@ -12,8 +12,8 @@ loop-node-preserved c =
     let t = c.args.timed.now in
     let s = view_system t.flat in
     let v = view_variable c.variable-var.result.now in
-    let here = c.in_ok-taps.ensures ∙ ap (λ (u : Timed). taps (view_system u.flat) u.helpers c.place.result v) c.system.ensures in
-    subst (AreTapsTo s t.helpers (c.loop-node.node + 1)) (sym c.in_ok-push.ensures.ok) (taps_step s t.helpers c.loop-node.node c.place.result v c.place.ensures c.variable-var.ensures.is c.in_ok-taps.taps here c.loop-node.sites c.loop-node.invariant)
+    let here = c.in_ok-taps.ensures ∙ ap (λ (u : Timed). taps (view_system u.flat) u.helpers c.place.result.0 v) c.system.ensures in
+    subst (AreTapsTo s t.helpers (c.loop-node.node + 1)) (sym c.in_ok-push.ensures.ok) (taps_step s t.helpers c.loop-node.node c.place.result.0 v c.place.ensures c.variable-var.ensures.is c.in_ok-taps.taps here c.loop-node.sites c.loop-node.invariant)
 
 pub returns : goal.returns
 returns c =

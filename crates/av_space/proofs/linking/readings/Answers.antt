@@ -34,12 +34,12 @@ loop-slot-preserved c =
     let whole = c.requires in
     let order : AllPairs (λ a b. a.cycle < b.cycle) slots =
     subst (AllPairs (λ (a b : Slot). a.cycle < b.cycle)) (sym whole.own_is) (AllPairs-filter (λ (a b : Slot). a.cycle < b.cycle) (λ (x : Slot). has piece.domain x.point) whole.slots whole.site.is.are_slots.order) in
-    let next = next_slot s placings cells c.args.node t piece slots c.loop-slot.slot-index c.slot-item.result c.loop-slot-test.true c.slot-item.is order rs c.loop-slot.invariant c.reading_at.result c.reading_at.ensures.cycle c.reading_at.ensures.reading in
+    let next = next_slot s placings cells c.args.node.0 t piece slots c.loop-slot.slot-index c.slot-item.result c.loop-slot-test.true c.slot-item.is order rs c.loop-slot.invariant c.reading_at.result c.reading_at.ensures.cycle c.reading_at.ensures.reading in
     let new : rs ++ listed c.reading_at.result ≡ c.match-reading_at.readings = elim c.match-reading_at.branch [
       | in-Some+in_ok-push w ↦ (ap (λ o. rs ++ listed o) w.in-Some.is ∙ sym w.in_ok-push.ensures.ok ∙ sym w.readings-is)
       | in_default w ↦ (ap (λ o. rs ++ listed o) w.in_default.is ∙ append-nil rs ∙ sym w.readings-is)
     ] in
-    subst (AreReadings (IsReadingOf s placings cells c.args.node t piece (take (c.loop-slot.slot-index + 1) slots))) new next
+    subst (AreReadings (IsReadingOf s placings cells c.args.node.0 t piece (take (c.loop-slot.slot-index + 1) slots))) new next
 
 pub returns : goal.returns
 returns c = grind (arith, common_steps)

@@ -6,4 +6,4 @@ use Rattle.av_space.proofs.linking.readings.Given as goal
 
 abbrev pub invariant-loop-slot : goal.invariant-loop-slot
 invariant-loop-slot l =
-    AreReadings (IsReadingOf (view_system l.scheduled.timed.flat) l.scheduled.layout.placements l.scheduled.layout.cells l.node (tap_of l.site) (view_piece l.piece) (take l.slot-index l.slots)) l.readings
+    AreReadings (IsReadingOf (view_system l.scheduled.timed.flat) l.scheduled.layout.placements l.scheduled.layout.cells l.node.0 (tap_of l.site) (view_piece l.piece) (take l.slot-index l.slots)) l.readings

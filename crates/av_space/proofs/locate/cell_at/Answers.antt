@@ -12,7 +12,7 @@ halved low high n l m = (omega (arith, l), omega (arith, l, m))
 pub loop-low-preserved-then-is_cell_before : goal.loop-low-preserved-then-is_cell_before
 loop-low-preserved-then-is_cell_before c =
     let cells = c.args.cells.now in
-    let own : Cell = record { node = c.args.node; at = c.args.at.now } in
+    let own : Cell = record { node = c.args.node.0; at = c.args.at.now } in
     let low = c.loop-low.low in
     let high = c.loop-low.high in
     let m = low + (high - low) / 2 in
@@ -26,7 +26,7 @@ loop-low-preserved-then-is_cell_before c =
 pub loop-low-preserved : goal.loop-low-preserved
 loop-low-preserved c =
     let cells = c.args.cells.now in
-    let own : Cell = record { node = c.args.node; at = c.args.at.now } in
+    let own : Cell = record { node = c.args.node.0; at = c.args.at.now } in
     let low = c.loop-low.low in
     let high = c.loop-low.high in
     let m = low + (high - low) / 2 in
@@ -40,4 +40,4 @@ loop-low-preserved c =
     }
 
 pub returns : goal.returns
-returns c = found Cell IsCellBefore cells_in_turn c.args.cells.now (record { node = c.args.node; at = c.args.at.now }) c.requires.order c.loop-low.low c.loop-low.high c.loop-low-test.false c.requires.there c.loop-low.invariant.between
+returns c = found Cell IsCellBefore cells_in_turn c.args.cells.now (record { node = c.args.node.0; at = c.args.at.now }) c.requires.order c.loop-low.low c.loop-low.high c.loop-low-test.false c.requires.there c.loop-low.invariant.between

@@ -5,7 +5,7 @@ use Rattle.av_space.proofs.locate.cell_at.Given as goal
 
 abbrev pub invariant-loop-low : goal.invariant-loop-low
 invariant-loop-low l = record {
-  between : IsBetween Cell l.cells (record { node = l.node; at = l.at }) l.low l.high;
+  between : IsBetween Cell l.cells (record { node = l.node.0; at = l.at }) l.low l.high;
   fits : l.high ≤ length l.cells;
 }
 

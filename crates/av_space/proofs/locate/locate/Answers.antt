@@ -18,7 +18,7 @@ pub coordinates-at-requires-clause-few : goal.coordinates-at-requires-clause-few
 coordinates-at-requires-clause-few c =
     let t = c.args.scheduled.now.timed in
     let l = c.args.scheduled.now.layout in
-    let n = c.args.node in
+    let n = c.args.node.0 in
     let z = c.args.z.now in
     let p = c.index-placements-node.result in
     let is : slice_get l.placements n ≡ Some p = own_placing t l n z p c.placements-placements.result.now c.placements-placements.ensures.scheduled.legal c.placements-placements.ensures.scheduled.layout c.requires c.placements-placements.ensures.is c.index-placements-node.is in
@@ -29,7 +29,7 @@ pub coordinates-at-requires-clause-fits : goal.coordinates-at-requires-clause-fi
 coordinates-at-requires-clause-fits c =
     let t = c.args.scheduled.now.timed in
     let l = c.args.scheduled.now.layout in
-    let n = c.args.node in
+    let n = c.args.node.0 in
     let z = c.args.z.now in
     let p = c.index-placements-node.result in
     let is : slice_get l.placements n ≡ Some p = own_placing t l n z p c.placements-placements.result.now c.placements-placements.ensures.scheduled.legal c.placements-placements.ensures.scheduled.layout c.requires c.placements-placements.ensures.is c.index-placements-node.is in
@@ -40,7 +40,7 @@ pub coordinates-at-requires-clause-small : goal.coordinates-at-requires-clause-s
 coordinates-at-requires-clause-small c =
     let t = c.args.scheduled.now.timed in
     let l = c.args.scheduled.now.layout in
-    let n = c.args.node in
+    let n = c.args.node.0 in
     let z = c.args.z.now in
     let p = c.index-placements-node.result in
     let is : slice_get l.placements n ≡ Some p = own_placing t l n z p c.placements-placements.result.now c.placements-placements.ensures.scheduled.legal c.placements-placements.ensures.scheduled.layout c.requires c.placements-placements.ensures.is c.index-placements-node.is in
@@ -51,7 +51,7 @@ pub cell_at-cell-requires-clause-there : goal.cell_at-cell-requires-clause-there
 cell_at-cell-requires-clause-there c =
     let t = c.args.scheduled.now.timed in
     let l = c.args.scheduled.now.layout in
-    let n = c.args.node in
+    let n = c.args.node.0 in
     let z = c.args.z.now in
     let p = c.index-placements-node.result in
     let is : slice_get l.placements n ≡ Some p = own_placing t l n z p c.placements-placements.result.now c.placements-placements.ensures.scheduled.legal c.placements-placements.ensures.scheduled.layout c.requires c.placements-placements.ensures.is c.index-placements-node.is in
@@ -61,7 +61,7 @@ cell_at-cell-requires-clause-there c =
 
 pub overflow_cast-result : goal.overflow_cast-result
 overflow_cast-result c =
-    let k = slice_get_within c.cells.result.now c.cell_at-cell.result (record { node = c.args.node; at = c.coordinates-at.result }) c.cell_at-cell.ensures in
+    let k = slice_get_within c.cells.result.now c.cell_at-cell.result (record { node = c.args.node.0; at = c.coordinates-at.result }) c.cell_at-cell.ensures in
     let e = ap (λ (cells : List Cell). length cells) c.cells.ensures.is in
     omega (arith, k, e, c.placements-placements.ensures.scheduled.layout.few_cells)
 
@@ -69,7 +69,7 @@ pub cycle-requires : goal.cycle-requires
 cycle-requires c =
     let t = c.args.scheduled.now.timed in
     let l = c.args.scheduled.now.layout in
-    let n = c.args.node in
+    let n = c.args.node.0 in
     let z = c.args.z.now in
     let p = c.index-placements-node.result in
     let is : slice_get l.placements n ≡ Some p = own_placing t l n z p c.placements-placements.result.now c.placements-placements.ensures.scheduled.legal c.placements-placements.ensures.scheduled.layout c.requires c.placements-placements.ensures.is c.index-placements-node.is in
@@ -80,7 +80,7 @@ pub overflow_cast-result-2 : goal.overflow_cast-result-2
 overflow_cast-result-2 c =
     let t = c.args.scheduled.now.timed in
     let l = c.args.scheduled.now.layout in
-    let n = c.args.node in
+    let n = c.args.node.0 in
     let z = c.args.z.now in
     let p = c.index-placements-node.result in
     let is : slice_get l.placements n ≡ Some p = own_placing t l n z p c.placements-placements.result.now c.placements-placements.ensures.scheduled.legal c.placements-placements.ensures.scheduled.layout c.requires c.placements-placements.ensures.is c.index-placements-node.is in
@@ -98,7 +98,7 @@ pub returns : goal.returns
 returns c =
     let t = c.args.scheduled.now.timed in
     let l = c.args.scheduled.now.layout in
-    let n = c.args.node in
+    let n = c.args.node.0 in
     let z = c.args.z.now in
     let p = c.index-placements-node.result in
     let is : slice_get l.placements n ≡ Some p = own_placing t l n z p c.placements-placements.result.now c.placements-placements.ensures.scheduled.legal c.placements-placements.ensures.scheduled.layout c.requires c.placements-placements.ensures.is c.index-placements-node.is in

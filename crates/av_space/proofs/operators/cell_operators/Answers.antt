@@ -56,13 +56,13 @@ size_here s v sizes row own n j piece same is from at there =
     ap (λ (ns : List ℕ). get_or ns j 0) (from ∙ own_sizes s sizes n row (view_variable v) same lt is at) ∙ size_at v j piece there
 
 pub bounds-sizes-node : goal.bounds-sizes-node
-bounds-sizes-node c = row_within (view_system c.args.scheduled.now.timed.flat) c.args.sizes.now (get_or c.cells.result.now c.args.cell c.index-cells-cell.result).node (view_variable c.variable-var.result.now) c.requires.sizes c.variable-var.ensures
+bounds-sizes-node c = row_within (view_system c.args.scheduled.now.timed.flat) c.args.sizes.now (get_or c.cells.result.now c.args.cell.0 c.index-cells-cell.result).node (view_variable c.variable-var.result.now) c.requires.sizes c.variable-var.ensures
 
 pub bounds-own-number : goal.bounds-own-number
 bounds-own-number c =
     let s = view_system c.args.scheduled.now.timed.flat in
     let v = c.variable-var.result.now in
-    let n = (get_or c.cells.result.now c.args.cell c.index-cells-cell.result).node in
+    let n = (get_or c.cells.result.now c.args.cell.0 c.index-cells-cell.result).node in
     let row = c.index-sizes-node.result in
     let lt = row_within s c.args.sizes.now n (view_variable v) c.requires.sizes c.variable-var.ensures in
     let own = ap (λ (ns : List ℕ). length ns) (c.as_slice-own.ensures ∙ own_sizes s c.args.sizes.now n row (view_variable v) c.requires.sizes lt c.index-sizes-node.is c.variable-var.ensures) in
@@ -75,15 +75,15 @@ bounds-own-number c =
 pub variable-var-requires : goal.variable-var-requires
 variable-var-requires c =
     let x = c.index-cells-cell.result in
-    let l : c.args.cell < length c.cells.result.now = (let e = ap (λ (xs : List Cell). length xs) c.cells.ensures.is in let r = c.requires.cell in omega (arith, e, r)) in
-    let at = read_at c.args.scheduled.now.layout.cells c.cells.result.now c.args.cell x c.cells.ensures.is l c.index-cells-cell.is in
+    let l : c.args.cell.0 < length c.cells.result.now = (let e = ap (λ (xs : List Cell). length xs) c.cells.ensures.is in let r = c.requires.cell in omega (arith, e, r)) in
+    let at = read_at c.args.scheduled.now.layout.cells c.cells.result.now c.args.cell.0 x c.cells.ensures.is l c.index-cells-cell.is in
     let s = view_system c.args.scheduled.now.timed.flat in
-    let within = node_within s c.args.scheduled.now.layout.placements c.args.scheduled.now.layout.cells c.args.cell x c.cells.ensures.scheduled.layout.are_cells at in
+    let within = node_within s c.args.scheduled.now.layout.placements c.args.scheduled.now.layout.cells c.args.cell.0 x c.cells.ensures.scheduled.layout.are_cells at in
     subst (λ (y : Cell). y.node < length (nodes s)) c.index-cells-cell.is within
 
 pub loop-number-init : goal.loop-number-init
 loop-number-init c = record {
-  counted = count_none (view_system c.args.scheduled.now.timed.flat) c.args.scheduled.now.layout.placements c.args.scheduled.now.layout.cells (λ u. (u.cell ≡ c.args.cell) × (u.piece < 0)) (λ u piece h is. (let l = h.1 in omega (arith, l)));
+  counted = count_none (view_system c.args.scheduled.now.timed.flat) c.args.scheduled.now.layout.placements c.args.scheduled.now.layout.cells (λ u. (u.cell ≡ c.args.cell.0) × (u.piece < 0)) (λ u piece h is. (let l = h.1 in omega (arith, l)));
   most = omega arith;
 }
 
@@ -95,18 +95,18 @@ is_used-requires c =
     let piece = c.piece-item.result in
     let x = c.index-cells-cell.result in
     let slots = c.index-slots-cell.result in
-    let on = here t l c.args.cell x v slots c.cells.result.now c.slots.result.now c.cells.ensures.scheduled.layout c.requires.cell c.cells.ensures.is c.index-cells-cell.is c.variable-var.ensures c.slots.ensures.is c.index-slots-cell.is in
+    let on = here t l c.args.cell.0 x v slots c.cells.result.now c.slots.result.now c.cells.ensures.scheduled.layout c.requires.cell c.cells.ensures.is c.index-cells-cell.is c.variable-var.ensures c.slots.ensures.is c.index-slots-cell.is in
     let lp : c.loop-number.number < length c.as_slice-piece-items.result.now = search rules in
     let is = get_mapped view_piece v.pieces c.loop-number.number piece (read_at v.pieces c.as_slice-piece-items.result.now c.loop-number.number piece c.as_slice-piece-items.ensures lp c.piece-item.is) in
     subst (λ (ts : List Slot). AreOfNode piece.domain ts) (sym c.as_slice-slots.ensures)
-    (are_of_node t l c.args.cell (view_variable v) slots c.cells.ensures.scheduled.legal c.cells.ensures.scheduled.layout.are_placings on c.loop-number.number (view_piece piece) is)
+    (are_of_node t l c.args.cell.0 (view_variable v) slots c.cells.ensures.scheduled.legal c.cells.ensures.scheduled.layout.are_placings on c.loop-number.number (view_piece piece) is)
 
 pub loop-number-preserved : goal.loop-number-preserved
 loop-number-preserved c =
     let s = view_system c.args.scheduled.now.timed.flat in
     let t = c.args.scheduled.now.timed in
     let l = c.args.scheduled.now.layout in
-    let p = c.args.cell in
+    let p = c.args.cell.0 in
     let v = c.variable-var.result.now in
     let piece = c.piece-item.result in
     let x = c.index-cells-cell.result in
@@ -141,7 +141,7 @@ returns-clause-count c =
     let s = view_system c.args.scheduled.now.timed.flat in
     let t = c.args.scheduled.now.timed in
     let l = c.args.scheduled.now.layout in
-    let p = c.args.cell in
+    let p = c.args.cell.0 in
     let v = c.variable-var.result.now in
     let x = c.index-cells-cell.result in
     let slots = c.index-slots-cell.result in

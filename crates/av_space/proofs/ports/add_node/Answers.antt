@@ -15,7 +15,7 @@ slots_of_piece-requires-clause-slots c =
     let r = c.requires in
     let set = c.piece_at-piece.result.now.domain in
     subst (λ (rows : List (List Slot)). AreOfPiece rows set c.args.cells.first c.args.cells.last) (sym c.slots.ensures.is)
-    (are_of_piece c.args.scheduled.now.timed c.args.scheduled.now.layout c.args.cells.node c.loop-number.number c.args.cells.first c.args.cells.last (view_variable c.variable-var.result.now) (view_piece c.piece_at-piece.result.now) c.slots.ensures.scheduled.legal c.slots.ensures.scheduled.layout c.variable-var.ensures c.piece_at-piece.ensures
+    (are_of_piece c.args.scheduled.now.timed c.args.scheduled.now.layout c.args.cells.node.0 c.loop-number.number c.args.cells.first c.args.cells.last (view_variable c.variable-var.result.now) (view_piece c.piece_at-piece.result.now) c.slots.ensures.scheduled.legal c.slots.ensures.scheduled.layout c.variable-var.ensures c.piece_at-piece.ensures
     r.cells.first r.cells.last r.cells.within)
 
 pub slots_of_piece-requires-clause-ordered : goal.slots_of_piece-requires-clause-ordered
@@ -73,5 +73,5 @@ returns c =
     let over : c.len-number-end.result ≤ c.loop-number.number = search rules in
     let many : length (map view_piece v.pieces) ≤ c.loop-number.number =
     (let a : length (map view_piece v.pieces) ≡ length v.pieces = length-map v.pieces view_piece in let b = c.len-number-end.ensures.count in omega (arith, over, a, b)) in
-    next_node s t.helpers l.placements l.cells c.args.cells.node c.loop-number.number c.args.cells.first c.args.cells.last c.loop-number.ports c.requires.cells.last
-    (λ port h e. let b = piece_below s t.helpers l.placements l.cells c.args.cells.node (view_variable v) c.variable-var.ensures port h e in omega (arith, b, many)) c.loop-number.invariant
+    next_node s t.helpers l.placements l.cells c.args.cells.node.0 c.loop-number.number c.args.cells.first c.args.cells.last c.loop-number.ports c.requires.cells.last
+    (λ port h e. let b = piece_below s t.helpers l.placements l.cells c.args.cells.node.0 (view_variable v) c.variable-var.ensures port h e in omega (arith, b, many)) c.loop-number.invariant

@@ -9,7 +9,7 @@ add_port-requires-clause-points c =
     let p = c.loop-cell.cell in
     let low : at.first ≤ p = search rules in
     let high : p < at.last = search rules in
-    own_points at c.requires.at c.args.number c.args.site.now c.requires.site p low high c.own_slots-slots.result.now c.own_slots-slots.ensures
+    own_points at c.requires.at c.args.number.0 c.args.site.now c.requires.site p low high c.own_slots-slots.result.now c.own_slots-slots.ensures
 
 pub add_port-requires-clause-few : goal.add_port-requires-clause-few
 add_port-requires-clause-few c = c.loop-cell.invariant.few
@@ -20,7 +20,7 @@ loop-cell-preserved c =
     let p = c.loop-cell.cell in
     let low : at.first ≤ p = search rules in
     let high : p < at.last = search rules in
-    one_cell_of_own at c.requires.at c.args.number c.args.site.now c.requires.site p low high c.own_slots-slots.result.now c.own_slots-slots.ensures c.loop-cell.ports c.add_port.new.ports c.loop-cell.invariant c.in_ok-add_port.ensures.ports
+    one_cell_of_own at c.requires.at c.args.number.0 c.args.site.now c.requires.site p low high c.own_slots-slots.result.now c.own_slots-slots.ensures c.loop-cell.ports c.add_port.new.ports c.loop-cell.invariant c.in_ok-add_port.ensures.ports
     c.in_ok-add_port.ensures.few
 
 pub returns : goal.returns
@@ -29,4 +29,4 @@ returns c =
     let over : at.last ≤ c.loop-cell.cell = search rules in
     let few : c.loop-cell.cell ≤ at.last = c.loop-cell.auto.cell-end c.requires.at.ordered in
     let same : c.loop-cell.cell ≡ at.last = omega (arith, over, few) in
-    subst (λ (p : ℕ). ArePortsAt at c.args.number p c.loop-cell.ports) same c.loop-cell.invariant
+    subst (λ (p : ℕ). ArePortsAt at c.args.number.0 p c.loop-cell.ports) same c.loop-cell.invariant

@@ -11,12 +11,12 @@ returns-then-cells-number-clause-last c =
     let x = c.index-cells-number.result in
     let l : k < length cells = search rules in
     let le : c.args.first ≤ k = search rules in
-    let other : x.node ≡ c.args.node → ⊥ = λ e. c.if-cells-number.true (subst (λ (y : Cell). y.node ≡ c.args.node) c.index-cells-number.is e) in
-    ends_at cells c.args.node c.args.first k x c.requires.order c.requires.first c.loop-number.invariant le (read_at cells cells k x refl l c.index-cells-number.is) other
+    let other : x.node ≡ c.args.node.0 → ⊥ = λ e. c.if-cells-number.true (subst (λ (y : Cell). y.node ≡ c.args.node.0) c.index-cells-number.is e) in
+    ends_at cells c.args.node.0 c.args.first k x c.requires.order c.requires.first c.loop-number.invariant le (read_at cells cells k x refl l c.index-cells-number.is) other
 
 pub returns-clause-last : goal.returns-clause-last
 returns-clause-last c =
     let cells = c.args.cells.now in
     let over : length cells ≤ c.loop-number.number = search rules in
     let few : c.loop-number.number ≤ length cells = search rules in
-    ends_all cells c.args.node c.args.first c.loop-number.number c.requires.first c.loop-number.invariant (omega (arith, over, few))
+    ends_all cells c.args.node.0 c.args.first c.loop-number.number c.requires.first c.loop-number.invariant (omega (arith, over, few))

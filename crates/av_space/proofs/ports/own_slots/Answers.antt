@@ -20,6 +20,6 @@ returns c = λ slots is.
     let number = c.requires.at.own.number in
     let low = c.requires.low in
     let high = c.requires.high in
-    let within : c.args.cell - at.first < length c.as_slice-own.result.now = omega (arith, many, number, low, high) in
-    let read = read_at at.own c.as_slice-own.result.now (c.args.cell - at.first) part c.as_slice-own.ensures within c.index-own-place.is in
-    c.as_slice.ensures ∙ own_at at.scheduled.now.layout.slots at.piece.now.domain at.first at.last c.args.cell at.own slots part c.requires.at.own low is read
+    let within : c.args.cell.0 - at.first < length c.as_slice-own.result.now = omega (arith, many, number, low, high) in
+    let read = read_at at.own c.as_slice-own.result.now (c.args.cell.0 - at.first) part c.as_slice-own.ensures within c.index-own-place.is in
+    c.as_slice.ensures ∙ own_at at.scheduled.now.layout.slots at.piece.now.domain at.first at.last c.args.cell.0 at.own slots part c.requires.at.own low is read

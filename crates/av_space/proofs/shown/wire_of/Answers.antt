@@ -9,7 +9,7 @@ use Rattle.av_space.proofs.shown.wire_of.Goals.{in-Ok+in_ok-wire-in-Ok, in-Err+i
 pub returns : goal.returns
 returns c =
     let outputs = c.args.outputs.now in
-    let p = c.args.cell in
+    let p = c.args.cell.0 in
     let found = c.binary_search.ensures.position in
     elim c.match-binary_search.branch [
       | in-Ok+in_ok-wire-in-Ok w ↦

@@ -6,5 +6,5 @@ use Rattle.av_space.proofs.tapping.add_taps_of.Given as goal
 
 abbrev pub invariant-loop-place : goal.invariant-loop-place
 invariant-loop-place l =
-    map tap_of l.sites ++ taps_where (view_system l.timed.flat) l.timed.helpers l.own l.picks (map place_of (drop l.place-index l.places))
-    ≡ map tap_of l.fn.sites ++ taps_where (view_system l.timed.flat) l.timed.helpers l.own l.picks (map place_of l.places)
+    map tap_of l.sites ++ taps_where (view_system l.timed.flat) l.timed.helpers l.own.0 l.picks (map place_of (drop l.place-index l.places))
+    ≡ map tap_of l.fn.sites ++ taps_where (view_system l.timed.flat) l.timed.helpers l.own.0 l.picks (map place_of l.places)

@@ -10,7 +10,7 @@ pub returns : goal.returns
 returns c =
     let s = view_system c.args.timed.now.flat in
     let hs = c.args.timed.now.helpers in
-    let own = c.args.own in
+    let own = c.args.own.0 in
     let picked = λ (ps : List PlaceMade). taps_where s hs own true (map place_of ps) in
     let others = λ (ps : List PlaceMade). taps_where s hs own false (map place_of ps) in
     all_found s hs own (view_variable c.args.var.now) c.in_ok-places.places (c.in_ok-places.ensures ∙ ap (λ (l : List Piece). places_from 0 (map view_piece l)) c.as_slice.ensures)

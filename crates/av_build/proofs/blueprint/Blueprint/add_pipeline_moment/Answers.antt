@@ -20,15 +20,15 @@ handed_source-source-requires-clause-lane c =
     let at = c.args.spot.now in
     let r = c.in-Some.reading in
     let inside : Type 0 = IsTrue (has at.piece.now.domain (before c.args.slot.now.point c.args.pipeline.now.direction)) in
-    let told = subst (λ (o : Option TapReading). MatchOption o (inside → ⊥) (λ r. inside × IsLinkedBy b.array at c.args.slot.now.cycle (handed_tap (place_of c.args.site.now.place) c.args.pipeline.now) r.producer r.delay)) c.in-Some.is c.handed-reading.ensures in
-    helper_of_producer b c.requires.blueprint at c.requires.spot c.args.site.now c.requires.site c.args.pipeline.now c.requires.pipeline c.args.slot.now c.requires.slot told.0 r.producer r.delay told.1
+    let told = subst (λ (o : Option TapReading). MatchOption o (inside → ⊥) (λ r. inside × IsLinkedBy b.array at c.args.slot.now.cycle (handed_tap (place_of c.args.site.now.place) c.args.pipeline.now) r.producer.0 r.delay)) c.in-Some.is c.handed-reading.ensures in
+    helper_of_producer b c.requires.blueprint at c.requires.spot c.args.site.now c.requires.site c.args.pipeline.now c.requires.pipeline c.args.slot.now c.requires.slot told.0 r.producer.0 r.delay told.1
 
 pub own_source-source-requires-clause-entered : goal.own_source-source-requires-clause-entered
 own_source-source-requires-clause-entered c =
     let b = c.args.self.now in
     let at = c.args.spot.now in
     let inside : Type 0 = IsTrue (has at.piece.now.domain (before c.args.slot.now.point c.args.pipeline.now.direction)) in
-    let told = subst (λ (o : Option TapReading). MatchOption o (inside → ⊥) (λ r. inside × IsLinkedBy b.array at c.args.slot.now.cycle (handed_tap (place_of c.args.site.now.place) c.args.pipeline.now) r.producer r.delay)) c.in-None.is c.handed-reading.ensures in
+    let told = subst (λ (o : Option TapReading). MatchOption o (inside → ⊥) (λ r. inside × IsLinkedBy b.array at c.args.slot.now.cycle (handed_tap (place_of c.args.site.now.place) c.args.pipeline.now) r.producer.0 r.delay)) c.in-None.is c.handed-reading.ensures in
     subst (λ (o : Option Pipeline). IsReadAt o (view_piece at.piece.now) c.args.slot.now.point) (sym c.requires.pipeline) (c.requires.slot.within, told)
 
 pub returns-in-Some : goal.returns-in-Some
@@ -40,9 +40,9 @@ returns-in-Some c =
     let lanes = lanes_of b.cells in
     let source = c.handed_source-source.result in
     let inside : Type 0 = IsTrue (has at.piece.now.domain (before c.args.slot.now.point c.args.pipeline.now.direction)) in
-    let told = subst (λ (o : Option TapReading). MatchOption o (inside → ⊥) (λ r. inside × IsLinkedBy b.array at c.args.slot.now.cycle (handed_tap (place_of mine.place) c.args.pipeline.now) r.producer r.delay)) c.in-Some.is c.handed-reading.ensures in
+    let told = subst (λ (o : Option TapReading). MatchOption o (inside → ⊥) (λ r. inside × IsLinkedBy b.array at c.args.slot.now.cycle (handed_tap (place_of mine.place) c.args.pipeline.now) r.producer.0 r.delay)) c.in-Some.is c.handed-reading.ensures in
     let is_own : c.is_some-is_own.result ≡ true = c.is_some-is_own.ensures ∙ ap is_some c.in-Some.is in
-    let link = pipeline_link b.array lanes at mine c.requires.site c.args.slot.now c.args.pipeline.now c.requires.pipeline (view mine.place.tree) refl r.producer r.delay source c.handed_source-source.ensures told.1 in
+    let link = pipeline_link b.array lanes at mine c.requires.site c.args.slot.now c.args.pipeline.now c.requires.pipeline (view mine.place.tree) refl r.producer.0 r.delay source c.handed_source-source.ensures told.1 in
     on_ok_weaker c.push-in-Some.result (λ pushed. handed_added (seen b.array) lanes (spot_of at) mine.place.site c.args.pipeline.now (view mine.place.tree) c.args.slot.now c.args.number c.args.moments.now
     (record { entries = c.args.moments.now.entries; own = c.push-in-Some.new.self; entry_marks = c.push.new.self; own_marks = c.push-2.new.self })
     (record { number = c.args.number; holds = not c.is_some-is_own.result }) (record { number = c.args.number; holds = c.is_some-is_own.result })
@@ -56,7 +56,7 @@ returns-in-None c =
     let lanes = lanes_of b.cells in
     let source = c.own_source-source.result in
     let inside : Type 0 = IsTrue (has at.piece.now.domain (before c.args.slot.now.point c.args.pipeline.now.direction)) in
-    let told = subst (λ (o : Option TapReading). MatchOption o (inside → ⊥) (λ r. inside × IsLinkedBy b.array at c.args.slot.now.cycle (handed_tap (place_of mine.place) c.args.pipeline.now) r.producer r.delay)) c.in-None.is c.handed-reading.ensures in
+    let told = subst (λ (o : Option TapReading). MatchOption o (inside → ⊥) (λ r. inside × IsLinkedBy b.array at c.args.slot.now.cycle (handed_tap (place_of mine.place) c.args.pipeline.now) r.producer.0 r.delay)) c.in-None.is c.handed-reading.ensures in
     let not_own : c.is_some-is_own.result ≡ false = c.is_some-is_own.ensures ∙ ap is_some c.in-None.is in
     let own = pipeline_own b.array lanes at mine c.requires.site c.args.slot.now c.args.pipeline.now c.requires.pipeline (view mine.place.tree) refl source c.own_source-source.ensures in
     on_ok_weaker c.push-in-None.result (λ pushed. entry_added (seen b.array) lanes (spot_of at) mine.place.site c.args.pipeline.now (view mine.place.tree) c.args.slot.now c.args.number c.args.moments.now

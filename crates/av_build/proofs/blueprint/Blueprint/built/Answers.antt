@@ -12,14 +12,14 @@ none = record { cell = 0; helper = None }
 pub loop-plan-preserved : goal.loop-plan-preserved
 loop-plan-preserved c =
     let b = c.args.self.now in
-    let next = next_pair (λ (plan : LanePlan) (lane : LaneMade). IsBuiltBy b c.args.counter plan.cell plan.helper (lane_of lane)) c.as_slice-plan-items.result.now c.loop-plan.lanes c.push.new.self c.loop-plan.plan-index none (get_or c.as_slice-plan-items.result.now c.loop-plan.plan-index none) c.in_ok-lane.field-0
+    let next = next_pair (λ (plan : LanePlan) (lane : LaneMade). IsBuiltBy b c.args.counter plan.cell.0 plan.helper (lane_of lane)) c.as_slice-plan-items.result.now c.loop-plan.lanes c.push.new.self c.loop-plan.plan-index none (get_or c.as_slice-plan-items.result.now c.loop-plan.plan-index none) c.in_ok-lane.field-0
     c.loop-plan-test.true refl c.loop-plan.invariant.one_each c.loop-plan.invariant.each c.in_ok-lane.ensures c.in_ok-push.ensures.ok in
     record { one_each = next.0; each = next.1 }
 
 pub returns : goal.returns
 returns c =
     let b = c.args.self.now in
-    let all = all_pairs (λ (plan : LanePlan) (lane : LaneMade). IsBuiltBy b c.args.counter plan.cell plan.helper (lane_of lane)) b.lanes c.as_slice-plan-items.result.now c.loop-plan.lanes c.loop-plan.plan-index c.as_slice-plan-items.ensures
+    let all = all_pairs (λ (plan : LanePlan) (lane : LaneMade). IsBuiltBy b c.args.counter plan.cell.0 plan.helper (lane_of lane)) b.lanes c.as_slice-plan-items.result.now c.loop-plan.lanes c.loop-plan.plan-index c.as_slice-plan-items.ensures
     c.loop-plan.invariant.one_each c.loop-plan.auto.plan-index-end c.loop-plan-test.false c.loop-plan.invariant.each in
     record { one_each = all.0; each = all.1 }
 

@@ -22,10 +22,10 @@ offset_bounds-lanes-number c =
     let b = c.args.self.now in
     let has = c.requires.helper in
     let plan = c.index-as_slice-on.result in
-    let low = in_range b.cells c.args.on.cell has.plan has.is_plan in
-    let is = element_of b.cells c.as_slice.result.now c.args.on.cell plan plan c.as_slice.ensures low c.index-as_slice-on.is in
+    let low = in_range b.cells c.args.on.cell.0 has.plan has.is_plan in
+    let is = element_of b.cells c.as_slice.result.now c.args.on.cell.0 plan plan c.as_slice.ensures low c.index-as_slice-on.is in
     let value = ap (λ (x : CellPlan). x.lanes.value) (sym c.index-as_slice-on.is ∙ some_is plan has.plan (sym is ∙ has.is_plan)) in
-    let there = value_there b c.requires.blueprint c.args.on.cell c.args.on.helper has in
+    let there = value_there b c.requires.blueprint c.args.on.cell.0 c.args.on.helper has in
     let many = ap (λ (l : List LanePlan). length l) c.as_slice-lanes.ensures in
     let high = c.loop-number-test.true in
     let size = c.as_slice-lanes.type_inv.1 in
@@ -36,10 +36,10 @@ bounds-lanes-number c =
     let b = c.args.self.now in
     let has = c.requires.helper in
     let plan = c.index-as_slice-on.result in
-    let low = in_range b.cells c.args.on.cell has.plan has.is_plan in
-    let is = element_of b.cells c.as_slice.result.now c.args.on.cell plan plan c.as_slice.ensures low c.index-as_slice-on.is in
+    let low = in_range b.cells c.args.on.cell.0 has.plan has.is_plan in
+    let is = element_of b.cells c.as_slice.result.now c.args.on.cell.0 plan plan c.as_slice.ensures low c.index-as_slice-on.is in
     let value = ap (λ (x : CellPlan). x.lanes.value) (sym c.index-as_slice-on.is ∙ some_is plan has.plan (sym is ∙ has.is_plan)) in
-    let there = value_there b c.requires.blueprint c.args.on.cell c.args.on.helper has in
+    let there = value_there b c.requires.blueprint c.args.on.cell.0 c.args.on.helper has in
     let many = ap (λ (l : List LanePlan). length l) c.as_slice-lanes.ensures in
     let high = c.loop-number-test.true in
     omega (arith, high, value, there, many)
@@ -50,31 +50,31 @@ unreachable-requires c =
     let b = c.args.self.now in
     let has = c.requires.helper in
     let plan = c.index-as_slice-on.result in
-    let low = in_range b.cells c.args.on.cell has.plan has.is_plan in
-    let is = element_of b.cells c.as_slice.result.now c.args.on.cell plan plan c.as_slice.ensures low c.index-as_slice-on.is in
+    let low = in_range b.cells c.args.on.cell.0 has.plan has.is_plan in
+    let is = element_of b.cells c.as_slice.result.now c.args.on.cell.0 plan plan c.as_slice.ensures low c.index-as_slice-on.is in
     let same = sym c.index-as_slice-on.is ∙ some_is plan has.plan (sym is ∙ has.is_plan) in
     let end = c.loop-number-test.false in
     let value = ap (λ (x : CellPlan). x.lanes.value) same in
     let first = ap (λ (x : CellPlan). x.lanes.first) same in
-    found_below b c.requires.blueprint c.args.on.cell c.args.on.helper has c.loop-number.number (omega (arith, end, value)) (λ q lane le lt is_lane. c.loop-number.invariant q lane (omega (arith, le, first)) lt is_lane)
+    found_below b c.requires.blueprint c.args.on.cell.0 c.args.on.helper has c.loop-number.number (omega (arith, end, value)) (λ q lane le lt is_lane. c.loop-number.invariant q lane (omega (arith, le, first)) lt is_lane)
 
 pub returns-then-is_helper : goal.returns-then-is_helper
 returns-then-is_helper c =
     let b = c.args.self.now in
     let has = c.requires.helper in
     let plan = c.index-as_slice-on.result in
-    let low = in_range b.cells c.args.on.cell has.plan has.is_plan in
-    let is = element_of b.cells c.as_slice.result.now c.args.on.cell plan plan c.as_slice.ensures low c.index-as_slice-on.is in
+    let low = in_range b.cells c.args.on.cell.0 has.plan has.is_plan in
+    let is = element_of b.cells c.as_slice.result.now c.args.on.cell.0 plan plan c.as_slice.ensures low c.index-as_slice-on.is in
     let same = sym c.index-as_slice-on.is ∙ some_is plan has.plan (sym is ∙ has.is_plan) in
     let value = ap (λ (x : CellPlan). x.lanes.value) same in
     let first = ap (λ (x : CellPlan). x.lanes.first) same in
     let n = c.loop-number.number in
     let from = c.loop-number.auto.number in
     let high = c.loop-number-test.true in
-    let there = value_there b c.requires.blueprint c.args.on.cell c.args.on.helper has in
+    let there = value_there b c.requires.blueprint c.args.on.cell.0 c.args.on.helper has in
     let lane = get_or c.as_slice-lanes.result.now n none in
     let is_lane = element_of b.lanes c.as_slice-lanes.result.now n none lane c.as_slice-lanes.ensures (omega (arith, high, value, there)) refl in
-    first_found b c.requires.blueprint c.args.on.cell c.args.on.helper has n lane (omega (arith, from, first)) (omega (arith, high, value)) is_lane (sym c.if-is_helper.ensures)
+    first_found b c.requires.blueprint c.args.on.cell.0 c.args.on.helper has n lane (omega (arith, from, first)) (omega (arith, high, value)) is_lane (sym c.if-is_helper.ensures)
     (λ q other le lt is_other. c.loop-number.invariant q other (omega (arith, le, first)) lt is_other)
 
 pub loop-number-preserved : goal.loop-number-preserved

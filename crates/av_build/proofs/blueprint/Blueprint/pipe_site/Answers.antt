@@ -13,7 +13,7 @@ pub overflow_sub-result : goal.overflow_sub-result
 overflow_sub-result c =
     let b = c.args.self.now in
     let has = c.requires.helper in
-    let p = c.args.spot.now.cell in
+    let p = c.args.spot.now.cell.0 in
     let plan = c.index-as_slice-spot.result in
     let low = in_range b.cells p has.plan has.is_plan in
     let is = element_of b.cells c.as_slice.result.now p plan plan c.as_slice.ensures low c.index-as_slice-spot.is in
@@ -26,7 +26,7 @@ pub returns : goal.returns
 returns c =
     let b = c.args.self.now in
     let has = c.requires.helper in
-    let p = c.args.spot.now.cell in
+    let p = c.args.spot.now.cell.0 in
     let plan = c.index-as_slice-spot.result in
     let low = in_range b.cells p has.plan has.is_plan in
     let is = element_of b.cells c.as_slice.result.now p plan plan c.as_slice.ensures low c.index-as_slice-spot.is in

@@ -8,51 +8,45 @@ use Rattle.av_build.proofs.blueprint.Blueprint.pipeline.Goals as goal
 
 pub offset_bounds-as_slice-helper : goal.offset_bounds-as_slice-helper
 offset_bounds-as_slice-helper c =
-    let low = piece_low c.args.self.now c.requires.blueprint c.args.cell c.args.helper c.requires.helper c.as_slice.result.now c.index-as_slice-cell.result c.as_slice.ensures c.index-as_slice-cell.is c.as_slice-2.result.now c.as_slice-2.ensures in
+    let low = piece_low c.args.self.now c.requires.blueprint c.args.cell.0 c.args.helper c.requires.helper c.as_slice.result.now c.index-as_slice-cell.result c.as_slice.ensures c.index-as_slice-cell.is c.as_slice-2.result.now c.as_slice-2.ensures in
     let most = c.as_slice-2.type_inv.1 in
     omega (arith, low, most)
 
 pub bounds-as_slice-helper : goal.bounds-as_slice-helper
 bounds-as_slice-helper c =
-    piece_low c.args.self.now c.requires.blueprint c.args.cell c.args.helper c.requires.helper c.as_slice.result.now c.index-as_slice-cell.result c.as_slice.ensures c.index-as_slice-cell.is c.as_slice-2.result.now c.as_slice-2.ensures
+    piece_low c.args.self.now c.requires.blueprint c.args.cell.0 c.args.helper c.requires.helper c.as_slice.result.now c.index-as_slice-cell.result c.as_slice.ensures c.index-as_slice-cell.is c.as_slice-2.result.now c.as_slice-2.ensures
 
 pub planned_spot-requires-clause-spot : goal.planned_spot-requires-clause-spot
 planned_spot-requires-clause-spot c =
     let b = c.args.self.now in
     let has = c.requires.helper in
     let at = spot_by b.array c.index-as_slice-helper.result in
-    let is_at = piece_is b c.requires.blueprint c.args.cell c.args.helper has c.as_slice.result.now c.index-as_slice-cell.result c.as_slice.ensures c.index-as_slice-cell.is
+    let is_at = piece_is b c.requires.blueprint c.args.cell.0 c.args.helper has c.as_slice.result.now c.index-as_slice-cell.result c.as_slice.ensures c.index-as_slice-cell.is
     c.as_slice-2.result.now c.as_slice-2.ensures c.index-as_slice-helper.result c.index-as_slice-helper.is at refl in
-    (spot_at b.array c.requires.blueprint.array c.args.cell has.plan.pieces (c.requires.blueprint.plans.pieces c.args.cell has.plan has.is_plan) c.args.helper.piece at is_at).2
+    (spot_at b.array c.requires.blueprint.array c.args.cell.0 has.plan.pieces (c.requires.blueprint.plans.pieces c.args.cell.0 has.plan has.is_plan) c.args.helper.piece at is_at).2
 
 pub pipeline_modes-requires-clause-helper : goal.pipeline_modes-requires-clause-helper
 pipeline_modes-requires-clause-helper c =
     let at = c.in_ok-spot.spot in
-    let is_at = piece_is c.args.self.now c.requires.blueprint c.args.cell c.args.helper c.requires.helper c.as_slice.result.now c.index-as_slice-cell.result c.as_slice.ensures c.index-as_slice-cell.is
+    let is_at = piece_is c.args.self.now c.requires.blueprint c.args.cell.0 c.args.helper c.requires.helper c.as_slice.result.now c.index-as_slice-cell.result c.as_slice.ensures c.index-as_slice-cell.is
     c.as_slice-2.result.now c.as_slice-2.ensures c.index-as_slice-helper.result c.index-as_slice-helper.is at c.in_ok-spot.ensures in
-    (planned c.args.self.now c.requires.blueprint c.args.cell c.args.helper c.requires.helper at is_at).on
-
-pub overflow_cast-result : goal.overflow_cast-result
-overflow_cast-result c =
-    let low = cell_there c.args.self.now c.requires.blueprint c.args.cell c.args.helper c.requires.helper in
-    let few = c.requires.blueprint.array.layout.few_cells in
-    search (rules, low, few)
+    (planned c.args.self.now c.requires.blueprint c.args.cell.0 c.args.helper c.requires.helper at is_at).on
 
 pub overflow_add-result : goal.overflow_add-result
 overflow_add-result c =
     let at = c.in_ok-spot.spot in
-    let is_at = piece_is c.args.self.now c.requires.blueprint c.args.cell c.args.helper c.requires.helper c.as_slice.result.now c.index-as_slice-cell.result c.as_slice.ensures c.index-as_slice-cell.is
+    let is_at = piece_is c.args.self.now c.requires.blueprint c.args.cell.0 c.args.helper c.requires.helper c.as_slice.result.now c.index-as_slice-cell.result c.as_slice.ensures c.index-as_slice-cell.is
     c.as_slice-2.result.now c.as_slice-2.ensures c.index-as_slice-helper.result c.index-as_slice-helper.is at c.in_ok-spot.ensures in
-    let few = (planned c.args.self.now c.requires.blueprint c.args.cell c.args.helper c.requires.helper at is_at).few in
+    let few = (planned c.args.self.now c.requires.blueprint c.args.cell.0 c.args.helper c.requires.helper at is_at).few in
     let ranks = c.requires.ranks in
     search (rules, few, ranks)
 
 pub line_length-requires-clause-cell : goal.line_length-requires-clause-cell
-line_length-requires-clause-cell c = cell_there c.args.self.now c.requires.blueprint c.args.cell c.args.helper c.requires.helper
+line_length-requires-clause-cell c = cell_there c.args.self.now c.requires.blueprint c.args.cell.0 c.args.helper c.requires.helper
 
 pub returns : goal.returns
 returns c =
-    let p = c.args.cell in
+    let p = c.args.cell.0 in
     let h = c.args.helper in
     let at = c.in_ok-spot.spot in
     let is_at = piece_is c.args.self.now c.requires.blueprint p h c.requires.helper c.as_slice.result.now c.index-as_slice-cell.result c.as_slice.ensures c.index-as_slice-cell.is

@@ -42,7 +42,7 @@ add_pipeline_moment-requires-clause-slot c =
     let slot = c.index-slots-k.result in
     let low = c.requires.order.within n place is_place in
     let is_slot = element_of spot.slots c.as_slice-slots.result.now place slot slot c.as_slice-slots.ensures low c.index-slots-k.is in
-    at_index (IsSlotIn c.args.self.now.array spot.cell spot.node spot.piece.now.domain) spot.slots c.requires.spot.are_slots.each place slot is_slot
+    at_index (IsSlotIn c.args.self.now.array spot.cell.0 spot.node.0 spot.piece.now.domain) spot.slots c.requires.spot.are_slots.each place slot is_slot
 
 pub returns : goal.returns
 returns c =

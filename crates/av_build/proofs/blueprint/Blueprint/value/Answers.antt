@@ -1,4 +1,4 @@
-use Rattle.std.proofs.Common.{◌≡◌, ◌<◌, List, length, map, get_or, refl, sym, ap, subst, arith, rules}
+use Rattle.std.proofs.Common.{◌≡◌, ◌<◌, List, length, map, get_or, refl, sym, ap, subst, arith}
 use Rattle.std.proofs.lemmas.List.{length-map}
 use Rattle.av_kinds.specs.Written.{mode_of, lane_of}
 use Rattle.av_build.specs.declared.spots.SpotPlan.{SpotPlan}
@@ -15,7 +15,7 @@ pub bounds-spots-0 : goal.bounds-spots-0
 bounds-spots-0 c =
     let b = c.args.self.now in
     let is = c.requires.blueprint in
-    let p = c.args.cell in
+    let p = c.args.cell.0 in
     let cells = c.as_slice.result.now in
     let plan = c.index-as_slice-cell.result in
     let many = is.plans.one_each in
@@ -31,7 +31,7 @@ pub bounds-spots-0-2 : goal.bounds-spots-0-2
 bounds-spots-0-2 c =
     let b = c.args.self.now in
     let is = c.requires.blueprint in
-    let p = c.args.cell in
+    let p = c.args.cell.0 in
     let cells = c.as_slice.result.now in
     let plan = c.index-as_slice-cell.result in
     let many = is.plans.one_each in
@@ -47,7 +47,7 @@ pub value_mode-requires-clause-piece : goal.value_mode-requires-clause-piece
 value_mode-requires-clause-piece c =
     let b = c.args.self.now in
     let is = c.requires.blueprint in
-    let p = c.args.cell in
+    let p = c.args.cell.0 in
     let cells = c.as_slice.result.now in
     let plan = c.index-as_slice-cell.result in
     let many = is.plans.one_each in
@@ -58,22 +58,16 @@ value_mode-requires-clause-piece c =
     (plan, plan_at b is p low cells plan c.as_slice.ensures c.index-as_slice-cell.is, omega (arith, test, same))
 
 pub loop-number-init : goal.loop-number-init
-loop-number-init c = subst (AreModesTo c.args.self.now c.args.counter c.args.cell 0) (sym c.new-modes.ensures) (no_modes c.args.self.now c.args.counter c.args.cell)
+loop-number-init c = subst (AreModesTo c.args.self.now c.args.counter c.args.cell.0 0) (sym c.new-modes.ensures) (no_modes c.args.self.now c.args.counter c.args.cell.0)
 
 pub loop-number-preserved : goal.loop-number-preserved
-loop-number-preserved c = mode_more c.args.self.now c.args.counter c.args.cell c.loop-number.number c.loop-number.modes c.push.new.self c.in_ok-value_mode.field-0 c.loop-number.invariant c.in_ok-value_mode.ensures c.in_ok-push.ensures.ok
-
-pub overflow_cast-result : goal.overflow_cast-result
-overflow_cast-result c =
-    let few = c.requires.blueprint.array.layout.few_cells in
-    let cell = c.requires.cell in
-    search (rules, few, cell)
+loop-number-preserved c = mode_more c.args.self.now c.args.counter c.args.cell.0 c.loop-number.number c.loop-number.modes c.push.new.self c.in_ok-value_mode.field-0 c.loop-number.invariant c.in_ok-value_mode.ensures c.in_ok-push.ensures.ok
 
 pub returns : goal.returns
 returns c =
     let b = c.args.self.now in
     let is = c.requires.blueprint in
-    let p = c.args.cell in
+    let p = c.args.cell.0 in
     let cells = c.as_slice.result.now in
     let plan = c.index-as_slice-cell.result in
     let many = is.plans.one_each in

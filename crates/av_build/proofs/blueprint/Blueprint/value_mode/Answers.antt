@@ -27,13 +27,13 @@ pub in_order-requires-clause-ascend : goal.in_order-requires-clause-ascend
 in_order-requires-clause-ascend c = c.slots-all.ensures.order
 
 pub in_order-requires-clause-within : goal.in_order-requires-clause-within
-in_order-requires-clause-within c = cell_within c.args.self.now c.args.counter c.requires.counter c.args.on.cell c.slots-all.result.now c.slots-all.ensures
+in_order-requires-clause-within c = cell_within c.args.self.now c.args.counter c.requires.counter c.args.on.cell.0 c.slots-all.result.now c.slots-all.ensures
 
 pub planned_spot-requires-clause-spot : goal.planned_spot-requires-clause-spot
 planned_spot-requires-clause-spot c =
     let b = c.args.self.now in
     let is = c.requires.blueprint in
-    let p = c.args.on.cell in
+    let p = c.args.on.cell.0 in
     let k = c.args.on.number in
     let cells = c.as_slice.result.now in
     let plan = c.index-as_slice-on.result in
@@ -49,7 +49,7 @@ pub marks-requires-clause-points : goal.marks-requires-clause-points
 marks-requires-clause-points c =
     let b = c.args.self.now in
     let is = c.requires.blueprint in
-    let p = c.args.on.cell in
+    let p = c.args.on.cell.0 in
     let k = c.args.on.number in
     let cells = c.as_slice.result.now in
     let plan = c.index-as_slice-on.result in
@@ -65,7 +65,7 @@ pub work-requires-clause-spot : goal.work-requires-clause-spot
 work-requires-clause-spot c =
     let b = c.args.self.now in
     let is = c.requires.blueprint in
-    let p = c.args.on.cell in
+    let p = c.args.on.cell.0 in
     let k = c.args.on.number in
     let cells = c.as_slice.result.now in
     let plan = c.index-as_slice-on.result in
@@ -83,7 +83,7 @@ pub returns : goal.returns
 returns c = λ other spot is_other is_spot.
     let b = c.args.self.now in
     let is = c.requires.blueprint in
-    let p = c.args.on.cell in
+    let p = c.args.on.cell.0 in
     let k = c.args.on.number in
     let cells = c.as_slice.result.now in
     let plan = c.index-as_slice-on.result in
@@ -101,8 +101,8 @@ returns c = λ other spot is_other is_spot.
     let mode = piece_mode b is p plan here k at is_at slots c.slots-all.ensures count c.as_slice-4.result.now order c.in_ok-marks.marks c.in_ok-marks.ensures work in
     let windows = c.in_ok-windows.ensures ∙ ap (λ (l : List CounterMark). windows_by l) c.as_slice-5.ensures in
     let active =
-    subst (λ (l : List Window). IsModeFor (seen b.array) count p (λ m z. m ≡ at.node) (λ m z. IsTrue (has at.piece.now.domain z)) (record { windows = l; work = work })) (sym windows) mode in
-    subst (λ (x : Spot). IsValueWork b c.args.counter x work × IsModeFor (seen b.array) count p (λ m z. m ≡ x.node) (λ m z. IsTrue (has x.piece.now.domain z)) (record { windows = c.in_ok-windows.field-0; work = work })) one (c.in_ok-work.ensures, active)
+    subst (λ (l : List Window). IsModeFor (seen b.array) count p (λ m z. m ≡ at.node.0) (λ m z. IsTrue (has at.piece.now.domain z)) (record { windows = l; work = work })) (sym windows) mode in
+    subst (λ (x : Spot). IsValueWork b c.args.counter x work × IsModeFor (seen b.array) count p (λ m z. m ≡ x.node.0) (λ m z. IsTrue (has x.piece.now.domain z)) (record { windows = c.in_ok-windows.field-0; work = work })) one (c.in_ok-work.ensures, active)
 
 pub slots-all-requires-clause-cell : goal.slots-all-requires-clause-cell
 slots-all-requires-clause-cell c = grind (arith, elements)

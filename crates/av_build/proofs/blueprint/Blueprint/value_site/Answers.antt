@@ -22,7 +22,7 @@ pipe_site-requires-clause-helper c =
     let at = c.args.spot.now in
     let on = c.requires.place in
     let h = c.in-Some.pipeline in
-    subst (λ j. HasHelper b at.cell j) (ap (λ (g : Pipeline). g.number) (sym c.pipeline.view_is)) (helper_on b c.requires.blueprint at on.sites on.spot_on on.index c.args.place.now on.is_place h c.in-Some.is)
+    subst (λ j. HasHelper b at.cell.0 j) (ap (λ (g : Pipeline). g.number) (sym c.pipeline.view_is)) (helper_on b c.requires.blueprint at on.sites on.spot_on on.index c.args.place.now on.is_place h c.in-Some.is)
 
 pub returns-in-Some : goal.returns-in-Some
 returns-in-Some c = λ plan is_plan.

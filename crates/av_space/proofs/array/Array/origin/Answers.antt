@@ -45,7 +45,7 @@ returns-in-Some c =
     let r = c.in-Some.reading in
     let read = c.in-Some.ensures in
     subst (λ (t : Tree). IsOriginBy c.args.self.now c.args.spot.now c.args.slot.now (place_of c.args.site.now.place) c.args.site.now.pipeline t (origin.Value r.producer r.delay)) (sym tree)
-    (reads_link c.args.self.now c.requires.array c.args.spot.now c.requires.spot c.args.site.now c.requires.site c.args.slot.now c.requires.slot c.in-Ref.var c.in-Ref.map tree (sym c.if-not-is_computed_at.ensures) r.producer r.delay read.1)
+    (reads_link c.args.self.now c.requires.array c.args.spot.now c.requires.spot c.args.site.now c.requires.site c.args.slot.now c.requires.slot c.in-Ref.var c.in-Ref.map tree (sym c.if-not-is_computed_at.ensures) r.producer.0 r.delay read.1)
 
 pub returns-in-Some-linked : goal.returns-in-Some-linked
 returns-in-Some-linked c =
@@ -53,7 +53,7 @@ returns-in-Some-linked c =
     let r = c.in-Some-linked.reading in
     let read = c.in-Some-linked.ensures in
     subst (λ (t : Tree). IsOriginBy c.args.self.now c.args.spot.now c.args.slot.now (place_of c.args.site.now.place) c.args.site.now.pipeline t (origin.Value r.producer r.delay)) (sym tree)
-    (picks_link c.args.self.now c.requires.array c.args.spot.now c.requires.spot c.args.site.now c.requires.site c.args.slot.now c.requires.slot c.in-Pick.var c.in-Pick.choices c.in-Pick.otherwise.bits tree r.producer r.delay read.0 read.1)
+    (picks_link c.args.self.now c.requires.array c.args.spot.now c.requires.spot c.args.site.now c.requires.site c.args.slot.now c.requires.slot c.in-Pick.var c.in-Pick.choices c.in-Pick.otherwise.bits tree r.producer.0 r.delay read.0 read.1)
 
 pub returns-in-None : goal.returns-in-None
 returns-in-None c =

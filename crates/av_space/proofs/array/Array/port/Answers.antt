@@ -13,11 +13,6 @@ use Rattle.av_space.proofs.array.Array.port.Goals as goal
 
 pub overflow_cast-port : goal.overflow_cast-port
 overflow_cast-port c =
-    let l = in_range (cells_of c.args.self.now) c.args.spot.now.cell c.requires.spot.cell c.requires.spot.is_cell in
-    omega (arith, l, c.requires.array.layout.few_cells)
-
-pub overflow_cast-port-2 : goal.overflow_cast-port-2
-overflow_cast-port-2 c =
     let at = c.args.spot.now in
     let l = in_range (view_variable at.var.now).pieces at.number (view_piece at.piece.now) c.requires.spot.is_piece in
     let size = length-map at.var.now.pieces view_piece in
@@ -38,13 +33,13 @@ port_at-requires-clause-order c =
 
 pub port_at-requires-clause-cell : goal.port_at-requires-clause-cell
 port_at-requires-clause-cell c =
-    let l = in_range (cells_of c.args.self.now) c.args.spot.now.cell c.requires.spot.cell c.requires.spot.is_cell in
-    subst (λ (cells : List Cell). c.args.spot.now.cell < length cells) (sym c.as_slice-cells.ensures) l
+    let l = in_range (cells_of c.args.self.now) c.args.spot.now.cell.0 c.requires.spot.cell c.requires.spot.is_cell in
+    subst (λ (cells : List Cell). c.args.spot.now.cell.0 < length cells) (sym c.as_slice-cells.ensures) l
 
 pub port_at-requires-clause-there : goal.port_at-requires-clause-there
 port_at-requires-clause-there c =
     let at = c.args.spot.now in
-    let site : c.args.site.now.place.site ≡ c.place.inside.site = ap (λ (p : PlaceMade). p.site) (sym c.place.view_is) in
-    subst (λ (ports : List InPort). Contains ports (record { cell = at.cell; piece = at.number; site = c.place.inside.site })) (sym c.as_slice.ensures)
-    (subst (λ (j : ℕ). Contains c.args.self.now.cells.now.inputs (record { cell = at.cell; piece = at.number; site = j })) site
+    let site : c.args.site.now.place.site ≡ c.place.inside.site.0 = ap (λ (p : PlaceMade). p.site) (sym c.place.view_is) in
+    subst (λ (ports : List InPort). Contains ports (record { cell = at.cell.0; piece = at.number; site = c.place.inside.site.0 })) (sym c.as_slice.ensures)
+    (subst (λ (j : ℕ). Contains c.args.self.now.cells.now.inputs (record { cell = at.cell.0; piece = at.number; site = j })) site
     (port_there c.args.self.now c.requires.array at c.requires.spot c.args.site.now c.requires.site.is c.args.slot.now c.requires.slot c.requires.site c.requires.entered))

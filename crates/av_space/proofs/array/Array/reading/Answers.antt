@@ -8,6 +8,7 @@ use Rattle.av_space.specs.Layouts.{IsLayout}
 use Rattle.av_space.specs.inner.Readings.{IsReadingAt, IsSite}
 use Rattle.av_space.specs.inner.Scheduled.{Scheduled, system_of, helpers_of, placings_of, cells_of}
 use Rattle.av_space.specs.inner.Sites.{tap_of}
+use Rattle.av_space.specs.inner.Stretches.{tap_reading}
 use Rattle.av_space.proofs.SpotReadings.{site, read_of}
 use Rattle.av_space.proofs.array.Array.reading.Goals as goal
 
@@ -23,7 +24,7 @@ reading_at-requires c =
     let at = c.args.spot.now in
     let tap = tap_of c.args.tap.now in
     let same = c.new-scheduled.ensures ∙ ap (λ (t : Timed). record { timed = t; layout = a.layout }) c.requires.array.nodes in
-    subst (λ (of : Scheduled). (slots : List Slot) × Contains slots c.args.slot.now × IsSite (system_of of) (helpers_of of) (placings_of of) (cells_of of) at.node tap (view_piece at.piece.now) slots) (sym same)
+    subst (λ (of : Scheduled). (slots : List Slot) × Contains slots c.args.slot.now × IsSite (system_of of) (helpers_of of) (placings_of of) (cells_of of) at.node.0 tap (view_piece at.piece.now) slots) (sym same)
     (site a c.requires.array at c.requires.spot tap c.requires.tap c.args.slot.now c.requires.slot)
 
 pub returns : goal.returns
@@ -34,5 +35,5 @@ returns c =
     let slot = c.args.slot.now in
     let r = c.reading_at.result in
     let same = c.new-scheduled.ensures ∙ ap (λ (t : Timed). record { timed = t; layout = a.layout }) c.requires.array.nodes in
-    let reading = subst (λ (of : Scheduled). (q d : ℕ) → IsReadingAt (system_of of) (placings_of of) (cells_of of) at.node tap (view_piece at.piece.now) slot.point slot.cycle q d ↔ (r ≡ Some (record { cycle = slot.cycle; producer = q; delay = d }))) same c.reading_at.ensures.reading in
+    let reading = subst (λ (of : Scheduled). (q d : ℕ) → IsReadingAt (system_of of) (placings_of of) (cells_of of) at.node.0 tap (view_piece at.piece.now) slot.point slot.cycle q d ↔ (r ≡ Some (tap_reading slot.cycle q d))) same c.reading_at.ensures.reading in
     read_of a c.requires.array at c.requires.spot tap c.requires.tap slot c.requires.slot r c.reading_at.ensures.cycle reading

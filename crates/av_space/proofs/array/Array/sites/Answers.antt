@@ -26,7 +26,7 @@ returns c =
         is_place = (let x = get_or sites k d in
             subst (λ (ps : List Place). Contains ps (place_of x.place)) places
             (among_at (map (λ (site : Site). place_of site.place) sites) k (place_of x.place) (get_mapped (λ (site : Site). place_of site.place) sites k x (slice_get-get_or sites k d l))));
-        pipeline = subst (λ (hs : List Helper). (get_or sites k d).pipeline ≡ pipeline_by hs at.place (place_of (get_or sites k d).place) (view (get_or sites k d).place.tree)) c.as_slice-helpers.ensures (c.loop-place.invariant.pipelines k d l);
+        pipeline = subst (λ (hs : List Helper). (get_or sites k d).pipeline ≡ pipeline_by hs at.place.0 (place_of (get_or sites k d).place) (view (get_or sites k d).place.tree)) c.as_slice-helpers.ensures (c.loop-place.invariant.pipelines k d l);
       };
     }
 

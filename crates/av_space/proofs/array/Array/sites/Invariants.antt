@@ -8,5 +8,5 @@ use Rattle.av_space.proofs.array.Array.sites.Given as goal
 abbrev pub invariant-loop-place : goal.invariant-loop-place
 invariant-loop-place l = record {
   places : map (λ site. place_of site.place) l.sites ≡ map place_of (take l.place-index l.place-items);
-  pipelines : All (λ site. site.pipeline ≡ pipeline_by l.helpers l.spot.place (place_of site.place) (view site.place.tree)) l.sites;
+  pipelines : All (λ site. site.pipeline ≡ pipeline_by l.helpers l.spot.place.0 (place_of site.place) (view site.place.tree)) l.sites;
 }

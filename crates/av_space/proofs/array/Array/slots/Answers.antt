@@ -6,7 +6,7 @@ use Rattle.av_space.proofs.array.Array.slots.Goals as goal
 
 pub returns : goal.returns
 returns c =
-    let k = c.args.cell in
+    let k = c.args.cell.0 in
     let l = c.args.self.now.layout in
     let is = c.requires.array.layout in
     let slots = c.as_slice.result.now in

@@ -20,9 +20,9 @@ place-place-requires c =
     let a = c.args.self.now in
     let is = c.requires.array in
     let d = c.index-as_slice-on.result in
-    let l = cell_node (system_of a) (placings_of a) (cells_of a) is.layout.are_cells c.args.on.cell d c.requires.cell in
-    let same = ap (λ (x : List Cell). (get_or x c.args.on.cell d).node) c.as_slice.ensures in
-    let n = (get_or c.as_slice.result.now c.args.on.cell d).node in
+    let l = cell_node (system_of a) (placings_of a) (cells_of a) is.layout.are_cells c.args.on.cell.0 d c.requires.cell in
+    let same = ap (λ (x : List Cell). (get_or x c.args.on.cell.0 d).node) c.as_slice.ensures in
+    let n = (get_or c.as_slice.result.now c.args.on.cell.0 d).node in
     let low : n < length (nodes (system_of a)) = omega (arith, l, same) in
     subst (λ (t : Timed). n < length (nodes (view_system t.flat))) (sym is.nodes) low
 
@@ -31,14 +31,14 @@ slots_in-requires c =
     let a = c.args.self.now in
     let v = c.variable-var.ensures in
     let var = c.variable-var.result.now in
-    are_of_node a.timed.now a.layout c.args.on.cell (view_variable var) c.slots.result.now c.requires.array.legal c.requires.array.layout.are_placings
+    are_of_node a.timed.now a.layout c.args.on.cell.0 (view_variable var) c.slots.result.now c.requires.array.legal c.requires.array.layout.are_placings
     (record { cell = v.cell; is_cell = v.is_cell; is_variable = v.is_variable; are_slots = c.slots.ensures }) c.args.on.number (view_piece c.piece_at-piece.result.now) c.piece_at-piece.ensures
 
 pub returns : goal.returns
 returns c =
     let a = c.args.self.now in
     let s = system_of a in
-    let k = c.args.on.cell in
+    let k = c.args.on.cell.0 in
     let v = c.variable-var.ensures in
     let d = c.index-as_slice-on.result in
     let here = get_or c.as_slice.result.now k d in

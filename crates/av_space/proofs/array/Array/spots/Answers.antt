@@ -24,11 +24,11 @@ loop-number-preserved c =
     let is = c.in_ok-spot.ensures in
     elim c.if-not-is_empty.branch [
       | then-not-is_empty+in_ok-push w ↦
-          subst (λ (spots : List Spot). AreSpotsBelow a c.args.cell (n + 1) spots) (sym w.in_ok-push.ensures.ok ∙ sym w.spots-is)
-          (one_spot_more a c.args.cell n c.loop-number.spots at c.loop-number.invariant is.0 is.1 (subst (λ (x : List Slot). 0 < length x) c.as_slice.ensures (some (length c.as_slice.result.now) c.is_empty.result c.is_empty.ensures w.if-not-is_empty.true)) is.2)
+          subst (λ (spots : List Spot). AreSpotsBelow a c.args.cell.0 (n + 1) spots) (sym w.in_ok-push.ensures.ok ∙ sym w.spots-is)
+          (one_spot_more a c.args.cell.0 n c.loop-number.spots at c.loop-number.invariant is.0 is.1 (subst (λ (x : List Slot). 0 < length x) c.as_slice.ensures (some (length c.as_slice.result.now) c.is_empty.result c.is_empty.ensures w.if-not-is_empty.true)) is.2)
       | else-not-is_empty w ↦
-          subst (λ (spots : List Spot). AreSpotsBelow a c.args.cell (n + 1) spots) (sym w.spots-is)
-          (none_more a c.args.cell n c.loop-number.spots at c.loop-number.invariant is.0 is.1 (subst (λ (x : List Slot). length x ≡ 0) c.as_slice.ensures (none (length c.as_slice.result.now) c.is_empty.result c.is_empty.ensures w.if-not-is_empty.false)) is.2)
+          subst (λ (spots : List Spot). AreSpotsBelow a c.args.cell.0 (n + 1) spots) (sym w.spots-is)
+          (none_more a c.args.cell.0 n c.loop-number.spots at c.loop-number.invariant is.0 is.1 (subst (λ (x : List Slot). length x ≡ 0) c.as_slice.ensures (none (length c.as_slice.result.now) c.is_empty.result c.is_empty.ensures w.if-not-is_empty.false)) is.2)
     ]
 
 pub returns : goal.returns
@@ -39,7 +39,7 @@ returns c =
     let done = c.loop-number-test.false in
     let size = length-map var.pieces view_piece in
     let all = ap (λ (x : List Piece). length x) c.as_slice-number-end.ensures in
-    all_spots a c.args.cell c.loop-number.number c.loop-number.spots v.cell (view_variable var) v.is_cell v.is_variable (omega (arith, done, size, all)) c.loop-number.invariant
+    all_spots a c.args.cell.0 c.loop-number.number c.loop-number.spots v.cell (view_variable var) v.is_cell v.is_variable (omega (arith, done, size, all)) c.loop-number.invariant
 
 pub spot-requires-clause-piece : goal.spot-requires-clause-piece
 spot-requires-clause-piece c = grind (arith, common_steps)

@@ -13,16 +13,16 @@ pub variable-requires : goal.variable-requires
 variable-requires c =
     let a = c.args.self.now in
     let is = c.requires.array.layout in
-    let l = cell_node (system_of a) (placings_of a) (cells_of a) is.are_cells c.args.cell c.index-as_slice-cell.result c.requires.cell in
-    let same = ap (λ (x : List Cell). (get_or x c.args.cell c.index-as_slice-cell.result).node) c.as_slice.ensures in
-    let n = (get_or c.as_slice.result.now c.args.cell c.index-as_slice-cell.result).node in
+    let l = cell_node (system_of a) (placings_of a) (cells_of a) is.are_cells c.args.cell.0 c.index-as_slice-cell.result c.requires.cell in
+    let same = ap (λ (x : List Cell). (get_or x c.args.cell.0 c.index-as_slice-cell.result).node) c.as_slice.ensures in
+    let n = (get_or c.as_slice.result.now c.args.cell.0 c.index-as_slice-cell.result).node in
     let low : n < length (nodes (system_of a)) = omega (arith, l, same) in
     subst (λ (t : Timed). n < length (nodes (view_system t.flat))) (sym c.requires.array.nodes) low
 
 pub returns : goal.returns
 returns c =
     let a = c.args.self.now in
-    let k = c.args.cell in
+    let k = c.args.cell.0 in
     let d = c.index-as_slice-cell.result in
     let cells = c.as_slice.result.now in
     let low : k < length cells = subst (λ (x : List Cell). k < length x) (sym c.as_slice.ensures) c.requires.cell in

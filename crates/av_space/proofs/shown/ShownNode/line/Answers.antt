@@ -5,7 +5,7 @@ use Rattle.av_space.proofs.shown.ShownNode.line.Goals as goal
 
 pub wire-requires-clause-cell : goal.wire-requires-clause-cell
 wire-requires-clause-cell c =
-    let h = c.locate-located.ensures in slice_get_within c.args.self.now.scheduled.now.layout.cells c.locate-located.result.cell h.cell h.is_cell
+    let h = c.locate-located.ensures in slice_get_within c.args.self.now.scheduled.now.layout.cells c.locate-located.result.cell.0 h.cell h.is_cell
 
 pub returns : goal.returns
 returns c = grind (arith, common_steps)

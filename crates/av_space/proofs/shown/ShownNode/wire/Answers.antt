@@ -10,7 +10,7 @@ returns c =
     let outputs = shown.outputs.now in
     let wires = c.requires.node.wires in
     let number = wires.number in
-    let within : c.args.cell < length shown.wires.now = omega (arith, number, c.requires.cell) in
-    let at = read_at shown.wires.now shown.wires.now c.args.cell c.index-wires-cell.result refl within c.index-wires-cell.is in
-    IfOk-weaker c.new.result (λ name. name ≡ c.as_str.result.now) (IsWireOf outputs c.args.cell)
-    (λ name e. subst (IsWireOf outputs c.args.cell) (sym (e ∙ c.as_str.ensures)) (wires.each c.args.cell c.index-wires-cell.result at)) c.new.ensures
+    let within : c.args.cell.0 < length shown.wires.now = omega (arith, number, c.requires.cell) in
+    let at = read_at shown.wires.now shown.wires.now c.args.cell.0 c.index-wires-cell.result refl within c.index-wires-cell.is in
+    IfOk-weaker c.new.result (λ name. name ≡ c.as_str.result.now) (IsWireOf outputs c.args.cell.0)
+    (λ name e. subst (IsWireOf outputs c.args.cell.0) (sym (e ∙ c.as_str.ensures)) (wires.each c.args.cell.0 c.index-wires-cell.result at)) c.new.ensures

@@ -26,5 +26,5 @@ returns c =
     let legal = subst IsLegal c.self.view_is c.self.invariant.1 in
     let are = c.as_slice.ensures ∙ ap (λ (t : Timed). t.times) c.self.view_is in
     let e = ap (λ (us : List Time). length us) are in
-    let l : c.args.node < length ts = omega (arith, e, legal.schedule.one_each, c.requires) in
-    record { is = ap (λ (us : List Time). slice_get us c.args.node) (sym are) ∙ slice_get-get_or ts c.args.node x l ∙ ap Some (sym c.index-as_slice-node.is); legal = legal }
+    let l : c.args.node.0 < length ts = omega (arith, e, legal.schedule.one_each, c.requires) in
+    record { is = ap (λ (us : List Time). slice_get us c.args.node.0) (sym are) ∙ slice_get-get_or ts c.args.node.0 x l ∙ ap Some (sym c.index-as_slice-node.is); legal = legal }
