@@ -99,7 +99,7 @@ impl<'a> Array<'a> {
         requires cell { on.cell.0 < length (cells_of self.now) }
         requires piece { HasPiece self.now on.cell.0 on.number }
         ensures { IfOk result (λ at.
-            (at.cell ≡ on.cell) × (at.number ≡ on.number) × IsSpot self.now at) }
+            (at.cell.0 ≡ on.cell.0) × (at.number ≡ on.number) × IsSpot self.now at) }
     {
         let node = Node(self.layout.cells.as_slice()[on.cell.0 as usize].node as usize);
         let place = self.nodes.place(node);

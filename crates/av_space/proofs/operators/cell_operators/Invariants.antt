@@ -5,6 +5,6 @@ use Rattle.av_space.proofs.operators.cell_operators.Given as goal
 
 abbrev pub invariant-loop-number : goal.invariant-loop-number
 invariant-loop-number l = record {
-  counted : IsCountOf (view_system l.scheduled.timed.flat) l.scheduled.layout.placements l.scheduled.layout.cells (λ u. (u.cell ≡ l.cell.0) × (u.piece < l.number)) l.sum;
+  counted : IsCountOf (view_system l.scheduled.timed.flat) l.scheduled.layout.placements l.scheduled.layout.cells (λ u. (u.cell ≡ l.fn.cell.0) × (u.piece < l.number)) l.sum;
   most : l.sum ≤ l.number * 4294967296;
 }
