@@ -29,8 +29,8 @@ module _ (b : Blueprint) (is : IsBlueprint b) (p j : ℕ) (has : HasHelper b p j
   pub value_there : plan.lanes.value < length b.lanes
   value_there =
       let value : plan.lanes.value ≡ plan.lanes.first + length (helpers_on plan.pieces) = value_is in
-      let there = lane_there 0 0 b.cells is.plans.numbered p p plan (omega arith) has.is_plan (length (helpers_on plan.pieces)) (record { cell = p; helper = None }) (value_lane_at p plan.pieces) plan.lanes.value (omega (arith, value)) in
-      in_range b.lanes plan.lanes.value (record { cell = p; helper = None }) (ap (λ (l : List LanePlan). slice_get l plan.lanes.value) is.plans.lanes_are ∙ there)
+      let there = lane_there 0 0 b.cells is.plans.numbered p p plan (omega arith) has.is_plan (length (helpers_on plan.pieces)) (record { cell = record { 0 = p }; helper = None }) (value_lane_at p plan.pieces) plan.lanes.value (omega (arith, value)) in
+      in_range b.lanes plan.lanes.value (record { cell = record { 0 = p }; helper = None }) (ap (λ (l : List LanePlan). slice_get l plan.lanes.value) is.plans.lanes_are ∙ there)
 
   -- there is one
   pub found_below : (n : ℕ) → plan.lanes.value ≤ n → ((q : ℕ) (lane : LanePlan) → plan.lanes.first ≤ q → q < n → slice_get b.lanes q ≡ Some lane → is_of_helper lane j ≡ false) → ⊥

@@ -49,7 +49,7 @@ module _ (b : Blueprint) (is : IsBlueprint b) (counter : Counter) (made : List L
     pieces = is.plans.pieces p plan is_plan
 
     -- the i-th lane is what its plan says
-    lane_at : (i : ℕ) (own : LanePlan) → slice_get (own_lanes p plan.pieces) i ≡ Some own → (q : ℕ) → q ≡ plan.lanes.first + i → (lane : LaneMade) → slice_get made q ≡ Some lane → IsBuiltBy b counter own.cell own.helper (lane_of lane)
+    lane_at : (i : ℕ) (own : LanePlan) → slice_get (own_lanes p plan.pieces) i ≡ Some own → (q : ℕ) → q ≡ plan.lanes.first + i → (lane : LaneMade) → slice_get made q ≡ Some lane → IsBuiltBy b counter own.cell.0 own.helper (lane_of lane)
     lane_at i own at q e lane is_lane =
         let there = lane_there 0 0 b.cells is.plans.numbered p p plan (omega arith) is_plan i own at q (omega (arith, e)) in
         built.each q own lane (ap (λ (l : List LanePlan). slice_get l q) is.plans.lanes_are ∙ there) is_lane
@@ -66,7 +66,7 @@ module _ (b : Blueprint) (is : IsBlueprint b) (counter : Counter) (made : List L
         there_is made q (omega (arith, within, many))
 
     pub value_built : (lane : LaneMade) → slice_get made plan.lanes.value ≡ Some lane → IsValueBuilt b counter p plan (lane_of lane)
-    value_built lane is_lane = lane_at (length (helpers_on plan.pieces)) (record { cell = p; helper = None }) (value_lane_at p plan.pieces) plan.lanes.value value_is lane is_lane plan is_plan
+    value_built lane is_lane = lane_at (length (helpers_on plan.pieces)) (record { cell = record { 0 = p }; helper = None }) (value_lane_at p plan.pieces) plan.lanes.value value_is lane is_lane plan is_plan
 
     value_lane : (lane : LaneMade) → slice_get made plan.lanes.value ≡ Some lane → (c n : ℕ) (z : Point) (v : Variable) → ComputesIn w p c n z → slice_get (nodes (system_of w)) n ≡ Some v
         → IsValueLane (seen w) (count_in counter) lanes plan.lanes.first p n v (lane_of lane)
@@ -99,8 +99,8 @@ module _ (b : Blueprint) (is : IsBlueprint b) (counter : Counter) (made : List L
               let e = helped w is.array p plan.pieces pieces h from in
               let spot = spot_at w is.array p plan.pieces pieces h.piece e.0 e.1.is_spot in
               let slot = there_is e.0.slots 0 spot.1 in
-              let computed = at_index (IsSlotIn w e.0.cell e.0.node e.0.piece.now.domain) e.0.slots spot.2.are_slots.each 0 slot.0 slot.1 in
-              let computes : ComputesIn w p slot.0.cycle (number_at (system_of w) e.1.helper.var) slot.0.point = subst (λ (n : ℕ). ComputesIn w p slot.0.cycle n slot.0.point) (sym e.1.node) (subst (λ (k : ℕ). ComputesIn w k slot.0.cycle e.0.node slot.0.point) spot.0 computed.computes) in
+              let computed = at_index (IsSlotIn w e.0.cell.0 e.0.node.0 e.0.piece.now.domain) e.0.slots spot.2.are_slots.each 0 slot.0 slot.1 in
+              let computes : ComputesIn w p slot.0.cycle (number_at (system_of w) e.1.helper.var) slot.0.point = subst (λ (n : ℕ). ComputesIn w p slot.0.cycle n slot.0.point) (sym e.1.node) (subst (λ (k : ℕ). ComputesIn w k slot.0.cycle e.0.node.0 slot.0.point) spot.0 computed.computes) in
               let first_is : helper_place h.number (helpers_on plan.pieces) ≡ i = place_found h.number (helpers_on plan.pieces) i h x.1 refl (λ k g lt is_g f. let same = different k i g h is_g x.1 f in absurd (omega (arith, same, lt))) in
               let told : lanes.of_helper h.number p ≡ plan.lanes.first + helper_place h.number (helpers_on plan.pieces) = ap (λ (o : Option CellPlan). helper_in h.number o) is_plan in
               let value = of_value_is in

@@ -7,7 +7,7 @@ use Rattle.av_build.proofs.PlansOn.{plan_on}
 use Rattle.av_build.proofs.blueprint.Blueprint.built.Goals as goal
 
 abbrev none : LanePlan
-none = record { cell = 0; helper = None }
+none = record { cell = record { 0 = 0 }; helper = None }
 
 pub loop-plan-preserved : goal.loop-plan-preserved
 loop-plan-preserved c =

@@ -12,7 +12,7 @@ use Rattle.av_build.proofs.HelperSearch.{value_there, found_below, first_found}
 use Rattle.av_build.proofs.blueprint.Blueprint.helper_lane.Goals as goal
 
 abbrev none : LanePlan
-none = record { cell = 0; helper = None }
+none = record { cell = record { 0 = 0 }; helper = None }
 
 pub loop-number-init : goal.loop-number-init
 loop-number-init c = λ q lane le lt is_lane. absurd (omega (arith, le, lt))
