@@ -2,7 +2,7 @@
 use Rattle.std.proofs.Common.{◌≡◌, ℕ, ◌≤◌, List, [], ◌∷◌, ◌++◌, map, get_or, refl, ap, ◌∙◌, arith, All}
 use Rattle.std.specs.Prelude.{filter, Contains}
 use Rattle.std.specs.List.{flat_map}
-use Rattle.std.proofs.lemmas.List.Elements.{All-map, All-filter, All-contains, Contains-get_or, filter-append}
+use Rattle.std.proofs.lemmas.List.Elements.{All-map, All-contains, Contains-get_or, filter-append}
 use Rattle.std.proofs.lemmas.List.{map-append}
 use Rattle.av_affine.specs.Numbers.{AtMost}
 use Rattle.av_flat.specs.declared.flat.Piece.{Piece as PieceMade}

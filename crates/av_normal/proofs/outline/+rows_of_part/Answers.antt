@@ -1,4 +1,4 @@
-use Rattle.std.proofs.Common.{◌≡◌, ◌<◌, ◌≤◌, ◌+◌, [], length, map, drop, arith, rules, ap, sym, subst, ◌∙◌, List, refl, OnOk, All}
+use Rattle.std.proofs.Common.{◌≡◌, ◌<◌, ◌≤◌, ◌+◌, length, map, drop, arith, rules, ap, sym, subst, ◌∙◌, List, refl, OnOk, All}
 use Rattle.std.proofs.lemmas.Grind.{common_steps}
 use Rattle.av_affine.specs.declared.form.Form.{Form}
 use Rattle.av_poly.specs.Points.{IsSmall}

@@ -1,4 +1,4 @@
-use Rattle.std.proofs.Common.{◌≡◌, ◌<◌, ◌≤◌, ◌+◌, [], length, map, drop, arith, rules, ap, sym, subst, ◌∙◌, List, refl, OnOk, All}
+use Rattle.std.proofs.Common.{◌≡◌, ◌<◌, ◌≤◌, ◌+◌, length, map, drop, arith, rules, ap, sym, subst, ◌∙◌, List, refl, OnOk, All}
 use Rattle.std.proofs.lemmas.Grind.{common_steps}
 use Rattle.av_affine.specs.declared.form.Form.{Form}
 use Rattle.av_poly.specs.Points.{IsSmall}
@@ -11,7 +11,7 @@ use Rattle.av_normal.specs.inner.PieceByNumber.{IsPartAt}
 use Rattle.av_normal.proofs.Outcomes.{on_ok, if_ok}
 use Rattle.av_normal.proofs.Reading.{fits_read}
 use Rattle.av_normal.proofs.Depths.{less_deep, right_falls, first_falls, second_falls, third_falls, fourth_falls}
-use Rattle.av_normal.proofs.PieceByNumber.{case_readable, case_has_part, has_left, has_right, has_one, has_two, has_three, has_four, next_branch_left, one_branch_more, branch_found, binary_part, choice_part, restriction_part, leaf_part}
+use Rattle.av_normal.proofs.PieceByNumber.{case_readable, case_has_part, has_right, has_one, has_two, has_three, has_four, next_branch_left, one_branch_more, branch_found, binary_part, choice_part, restriction_part, leaf_part}
 use Rattle.av_flat.specs.Quantities.{piece_count_of_all}
 use Rattle.av_base.proofs.Lists.{nothing_left}
 use Rattle.av_normal.proofs.piece.+part_of.Goals as goal
