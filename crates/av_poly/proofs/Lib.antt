@@ -6,6 +6,7 @@ pub mod Lowering
 pub mod Meeting
 pub mod Tightening
 pub mod Sofar
+pub mod LeftOut
 pub mod Uniqueness
 pub mod Normalising
 pub mod Intervals

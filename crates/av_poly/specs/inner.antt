@@ -1,3 +1,4 @@
 pub mod Placing
 pub mod Parts
 pub mod Search
+pub mod Trivial

@@ -5,6 +5,7 @@ ghost use Rattle.av_poly.specs.Normal.{AreNormalised};
 ghost use Rattle.av_poly.specs.Points.{Has};
 
 use crate::Poly;
+use crate::trivial::append_nontrivial;
 use av_affine::Form;
 use av_base::{List, Memory};
 use std::alloc::Global;
@@ -34,7 +35,9 @@ pub fn normalised_copy(alloc: Global, set: &Poly) -> Result<Poly, Memory>
     ensures dim { IfOk result (λ to. to.dim ≡ set.now.dim) }
     ensures rows { IfOk result (λ to. AreNormalised set.now.dim set.now.rows to.rows) }
 {
-    let mut to = copy_set(alloc, set)?;
+    let mut rows = List::new(alloc);
+    append_nontrivial(&mut rows, set.dim, set.rows.as_slice())?;
+    let mut to = Poly { dim: set.dim, rows };
     to.normalise();
     Ok(to)
 }

@@ -11,6 +11,7 @@ mod parts;
 mod poly;
 mod row;
 mod search;
+mod trivial;
 
 pub use copy::{copy_rows, copy_set, normalised_copy};
 pub use entries::{extended, first_entries, with_first};

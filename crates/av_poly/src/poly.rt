@@ -4,6 +4,7 @@ ghost use Rattle.av_affine.specs.Forms.{IsWithinLimits};
 ghost use Rattle.av_affine.specs.Maps.{image};
 ghost use Rattle.av_poly.specs.Points.{Has};
 ghost use Rattle.av_poly.specs.Normal.{AreNormalised, IsNormal};
+ghost use Rattle.av_affine.specs.declared.form.Form.{Form as Row};
 ghost use Rattle.av_poly.specs.Preimages.{rows_before};
 ghost use Rattle.av_poly.specs.Parts.{AreDisjoint};
 ghost use Rattle.av_poly.specs.Search.{IsBetween, IsNotAfter};
@@ -14,6 +15,7 @@ use crate::normal::normalise_rows;
 use crate::parts::parts;
 use crate::row::{append_rows, each_holds};
 use crate::search::first_from;
+use crate::trivial::append_nontrivial;
 use av_affine::{Form, Map};
 use av_base::{List, Memory, Point};
 use std::alloc::Global;
@@ -68,6 +70,25 @@ impl Poly {
         let mut rows = List::new(alloc);
         append_rows(&mut rows, self.rows.as_slice())?;
         append_rows(&mut rows, other.rows.as_slice())?;
+        Ok(Poly {
+            dim: self.dim,
+            rows,
+        })
+    }
+
+    /// The intersection of both sets, by the rows of this one and then those of the other, of which those may be left out
+    /// that have no coefficient and hold everywhere.
+    pub fn meet_nontrivial(&self, alloc: Global, other: &Poly) -> Result<Poly, Memory>
+        ensures dim { IfOk result (λ both. both.dim ≡ self.now.dim) }
+        ensures rows { IfOk result (λ both. (more new : Items Row)
+            → AreNormalised self.now.dim ((self.now.rows ++ other.now.rows) ++ more) new
+            ↔ AreNormalised self.now.dim (both.rows ++ more) new) }
+        ensures limits { IfOk result (λ both. All IsWithinLimits (self.now.rows ++ other.now.rows)
+            → All IsWithinLimits both.rows) }
+    {
+        let mut rows = List::new(alloc);
+        append_nontrivial(&mut rows, self.dim, self.rows.as_slice())?;
+        append_nontrivial(&mut rows, self.dim, other.rows.as_slice())?;
         Ok(Poly {
             dim: self.dim,
             rows,
