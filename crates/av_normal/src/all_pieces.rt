@@ -22,7 +22,7 @@ ghost use Rattle.av_normal.specs.inner.AllPieces.{IsPieceOfPart, ArePiecesOfPart
 use crate::NormalFault;
 use crate::compose::maps_fit;
 use crate::count::piece_count;
-use crate::measure::narrowed;
+use crate::measure::{narrowed, rows_fit};
 use crate::opposed::are_contrary;
 use crate::outline::outline_at;
 use crate::piece::tree_at;
@@ -30,7 +30,7 @@ use crate::reduction_sets::filled;
 use crate::sketch::sketch_tree;
 use av_base::{List, Memory, Word};
 use av_flat::{Flat, Piece, Tree, Var};
-use av_poly::{Poly, copy_set};
+use av_poly::{Poly, copy_set, normalised_copy};
 use std::alloc::Global;
 
 // Tries the rows of a declared domain.
@@ -38,8 +38,8 @@ fn domain_fits(alloc: Global, domain: &Poly) -> Result<(), NormalFault>
     ensures narrow { OnOk result (IsNarrow (of_set domain.now)) }
     ensures wide { IfErr result (IsWide (of_set domain.now ∷ [])) }
 {
-    let copy = copy_set(alloc, domain)?;
-    narrowed(copy)?;
+    let copy = normalised_copy(alloc, domain)?;
+    rows_fit(copy.rows.as_slice())?;
     Ok(())
 }
 
@@ -192,7 +192,7 @@ fn pieces_made(
 {
     let mut pieces = List::new(alloc);
     for piece in equation {
-        let both = domain.meet(alloc, &piece.domain)?;
+        let both = domain.meet_nontrivial(alloc, &piece.domain)?;
         append_pieces(alloc, vars, &both, &piece.tree, &mut pieces)?;
     }
     Ok(pieces)
