@@ -3,7 +3,7 @@
 ghost use Rattle.std.specs.Prelude.{◌≡◌, IfOk};
 
 use av_base::{List, Memory, Name};
-use av_tree::{Constraint, DomainText, IndexExpr, Term};
+use av_tree::{Constraint, DomainText, IndexExpr};
 use std::alloc::Global;
 
 fn name(name: &Name) -> Result<Name, Memory>
@@ -22,47 +22,23 @@ fn names(alloc: Global, names: &[Name]) -> Result<List<Name>, Memory>
     Ok(copies)
 }
 
-fn term(term: &Term) -> Result<Term, Memory>
-    ensures { IfOk result (λ copy. copy ≡ term.now) }
-{
-    let name = match &term.name {
-        Some(found) => Some(name(found)?),
-        None => None,
-    };
-    Ok(Term {
-        factor: term.factor,
-        name,
-        place: term.place,
-    })
-}
-
-fn terms(alloc: Global, terms: &[Term]) -> Result<List<Term>, Memory>
-    ensures { IfOk result (λ copies. copies ≡ terms.now) }
-{
-    let mut copies = List::new(alloc);
-    for one in terms {
-        copies.push(term(one)?)?;
-    }
-    Ok(copies)
-}
-
-/// The same index expression.
-pub(crate) fn index(alloc: Global, index: &IndexExpr) -> Result<IndexExpr, Memory>
+/// The same index expression, whose terms it shares.
+pub(crate) fn index(index: &IndexExpr) -> Result<IndexExpr, Memory>
     ensures { IfOk result (λ copy. copy ≡ index.now) }
 {
     Ok(IndexExpr {
-        terms: terms(alloc, index.terms.as_slice())?,
+        terms: index.terms.clone()?,
         place: index.place,
     })
 }
 
-fn constraint(alloc: Global, constraint: &Constraint) -> Result<Constraint, Memory>
+fn constraint(constraint: &Constraint) -> Result<Constraint, Memory>
     ensures { IfOk result (λ copy. copy ≡ constraint.now) }
 {
     Ok(Constraint {
-        left: index(alloc, &constraint.left)?,
+        left: index(&constraint.left)?,
         relation: constraint.relation,
-        right: index(alloc, &constraint.right)?,
+        right: index(&constraint.right)?,
     })
 }
 
@@ -71,7 +47,7 @@ fn constraints(alloc: Global, constraints: &[Constraint]) -> Result<List<Constra
 {
     let mut copies = List::new(alloc);
     for one in constraints {
-        copies.push(constraint(alloc, one)?)?;
+        copies.push(constraint(one)?)?;
     }
     Ok(copies)
 }

@@ -11,14 +11,12 @@ use crate::cursor::Cursor;
 use crate::fault::Stop;
 use av_base::{List, Memory, Place};
 use av_tree::{Constraint, DomainText, IndexExpr, Relation};
-use std::alloc::Global;
 
 /// A list of a comparison has at most this many members behind its first.
 const FURTHER_MEMBERS: usize = 7;
 
 // One member on the left with each on the right, appended to these constraints.
 fn compare_with_each(
-    alloc: Global,
     found: &mut List<Constraint>,
     left: &IndexExpr,
     relation: Relation,
@@ -28,9 +26,9 @@ fn compare_with_each(
 {
     for right in rights {
         found.push(Constraint {
-            left: copy::index(alloc, left)?,
+            left: copy::index(left)?,
             relation,
-            right: copy::index(alloc, right)?,
+            right: copy::index(right)?,
         })?;
     }
     Ok(())
@@ -38,7 +36,6 @@ fn compare_with_each(
 
 // Each member on the left with each on the right, the left one slowest.
 fn compare(
-    alloc: Global,
     found: &mut List<Constraint>,
     lefts: &[IndexExpr],
     relation: Relation,
@@ -47,7 +44,7 @@ fn compare(
     ensures { IfOk result (λ _. found.new ≡ found.old ++ compared lefts.now relation rights.now) }
 {
     for left in lefts {
-        compare_with_each(alloc, found, left, relation, rights)?;
+        compare_with_each(found, left, relation, rights)?;
     }
     Ok(())
 }
@@ -132,13 +129,7 @@ impl<'t, 'a> Cursor<'t, 'a> {
         while room > 0 {
             let relation = self.relation()?;
             let rights = self.side()?;
-            compare(
-                self.alloc,
-                found,
-                lefts.as_slice(),
-                relation,
-                rights.as_slice(),
-            )?;
+            compare(found, lefts.as_slice(), relation, rights.as_slice())?;
             if !self.begins_relation() {
                 return Ok(());
             }

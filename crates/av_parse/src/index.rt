@@ -11,7 +11,7 @@ use crate::fault::Stop;
 use crate::text::{names_of, value_of};
 use av_base::{List, Name, Place, TokenKind};
 use av_lex::Token;
-use av_tree::{IndexExpr, MapText, Term};
+use av_tree::{IndexExpr, MapText, Term, Terms};
 
 /// A number with the sign before it.
 fn signed(negative: bool, value: u64) -> i128
@@ -172,6 +172,7 @@ impl<'t, 'a> Cursor<'t, 'a> {
         let mut terms = List::new(self.alloc);
         terms.push(first)?;
         self.more_terms(&mut terms)?;
+        let terms = Terms::new(self.alloc, terms)?;
         Ok(IndexExpr { terms, place })
     }
 

@@ -1,4 +1,4 @@
-use crate::Relation;
+use crate::{Relation, Terms};
 use av_base::{List, Name, Place};
 
 /// A whole number, or the multiple of an index or a size. Its place is that of its name, or of its
@@ -14,7 +14,7 @@ pub struct Term {
 /// A sum of terms, at least one, in the order of the text. Its place is that of its first token.
 #[derive(Debug, Drop)]
 pub struct IndexExpr {
-    pub terms: List<Term>,
+    pub terms: Terms,
     pub place: Place,
 }
 

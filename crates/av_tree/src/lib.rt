@@ -8,6 +8,7 @@ mod laws;
 mod relation;
 mod sign;
 mod system;
+mod terms;
 
 pub use domain::{Constraint, DomainText, IndexExpr, MapText, Term};
 pub use expression::{Access, Expr};
@@ -15,3 +16,4 @@ pub use laws::{counted_word, one_word};
 pub use relation::Relation;
 pub use sign::Sign;
 pub use system::{Declaration, Equation, System};
+pub use terms::Terms;
