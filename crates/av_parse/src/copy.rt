@@ -22,23 +22,23 @@ fn names(alloc: Global, names: &[Name]) -> Result<List<Name>, Memory>
     Ok(copies)
 }
 
-/// The same index expression, whose terms it shares.
-pub(crate) fn index(index: &IndexExpr) -> Result<IndexExpr, Memory>
+/// The same index expression, with terms that it shares.
+pub(crate) fn index(alloc: Global, index: &IndexExpr) -> Result<IndexExpr, Memory>
     ensures { IfOk result (λ copy. copy ≡ index.now) }
 {
     Ok(IndexExpr {
-        terms: index.terms.clone()?,
+        terms: index.terms.share(alloc)?,
         place: index.place,
     })
 }
 
-fn constraint(constraint: &Constraint) -> Result<Constraint, Memory>
+fn constraint(alloc: Global, constraint: &Constraint) -> Result<Constraint, Memory>
     ensures { IfOk result (λ copy. copy ≡ constraint.now) }
 {
     Ok(Constraint {
-        left: index(&constraint.left)?,
+        left: index(alloc, &constraint.left)?,
         relation: constraint.relation,
-        right: index(&constraint.right)?,
+        right: index(alloc, &constraint.right)?,
     })
 }
 
@@ -47,7 +47,7 @@ fn constraints(alloc: Global, constraints: &[Constraint]) -> Result<List<Constra
 {
     let mut copies = List::new(alloc);
     for one in constraints {
-        copies.push(constraint(one)?)?;
+        copies.push(constraint(alloc, one)?)?;
     }
     Ok(copies)
 }

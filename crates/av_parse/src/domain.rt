@@ -11,12 +11,14 @@ use crate::cursor::Cursor;
 use crate::fault::Stop;
 use av_base::{List, Memory, Place};
 use av_tree::{Constraint, DomainText, IndexExpr, Relation};
+use std::alloc::Global;
 
 /// A list of a comparison has at most this many members behind its first.
 const FURTHER_MEMBERS: usize = 7;
 
 // One member on the left with each on the right, appended to these constraints.
 fn compare_with_each(
+    alloc: Global,
     found: &mut List<Constraint>,
     left: &IndexExpr,
     relation: Relation,
@@ -26,9 +28,9 @@ fn compare_with_each(
 {
     for right in rights {
         found.push(Constraint {
-            left: copy::index(left)?,
+            left: copy::index(alloc, left)?,
             relation,
-            right: copy::index(right)?,
+            right: copy::index(alloc, right)?,
         })?;
     }
     Ok(())
@@ -36,6 +38,7 @@ fn compare_with_each(
 
 // Each member on the left with each on the right, the left one slowest.
 fn compare(
+    alloc: Global,
     found: &mut List<Constraint>,
     lefts: &[IndexExpr],
     relation: Relation,
@@ -44,7 +47,7 @@ fn compare(
     ensures { IfOk result (λ _. found.new ≡ found.old ++ compared lefts.now relation rights.now) }
 {
     for left in lefts {
-        compare_with_each(found, left, relation, rights)?;
+        compare_with_each(alloc, found, left, relation, rights)?;
     }
     Ok(())
 }
@@ -129,7 +132,13 @@ impl<'t, 'a> Cursor<'t, 'a> {
         while room > 0 {
             let relation = self.relation()?;
             let rights = self.side()?;
-            compare(found, lefts.as_slice(), relation, rights.as_slice())?;
+            compare(
+                self.alloc,
+                found,
+                lefts.as_slice(),
+                relation,
+                rights.as_slice(),
+            )?;
             if !self.begins_relation() {
                 return Ok(());
             }

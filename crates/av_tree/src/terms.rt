@@ -2,12 +2,12 @@ ghost use Rattle.std.specs.Prelude.{◌≡◌, IfOk};
 
 use crate::Term;
 use av_base::{List, Memory};
-use std::alloc::{AllocError, Global};
+use std::alloc::Global;
 use std::marker::Model;
 use std::rc::Rc;
 
 /// The terms of an index expression, which contracts see as their list. A comparison of lists stands in the tree as one comparison
-/// for each pair of their members, and the copies of a member share its terms.
+/// for each pair of their members; what a member says is kept once, and shared by these.
 #[derive(Debug, Drop)]
 pub struct Terms {
     shared: Rc<List<Term>>,
@@ -37,16 +37,38 @@ impl Terms {
     {
         self.shared.as_ref().as_slice()
     }
+
+    /// The same terms. They are shared and not copied, unless they have as many owners already as can be counted.
+    pub fn share(&self, alloc: Global) -> Result<Terms, Memory>
+        ensures { IfOk result (λ same. same ≡ self.now) }
+    {
+        match self.shared.clone() {
+            Ok(shared) => Ok(Terms { shared }),
+            Err(_) => Terms::new(alloc, copies(alloc, self.as_slice())?),
+        }
+    }
 }
 
-impl Clone for Terms {
-    ghost use Rattle.std.specs.Prelude.{◌≡◌};
+fn copy(term: &Term) -> Result<Term, Memory>
+    ensures { IfOk result (λ copy. copy ≡ term.now) }
+{
+    let name = match &term.name {
+        Some(name) => Some(name.clone()?),
+        None => None,
+    };
+    Ok(Term {
+        factor: term.factor,
+        name,
+        place: term.place,
+    })
+}
 
-    ghost is_clone = { λ terms copy. copy ≡ terms };
-
-    fn clone(&self) -> Result<Terms, AllocError> {
-        Ok(Terms {
-            shared: self.shared.clone()?,
-        })
+fn copies(alloc: Global, terms: &[Term]) -> Result<List<Term>, Memory>
+    ensures { IfOk result (λ copies. copies ≡ terms.now) }
+{
+    let mut copies = List::new(alloc);
+    for term in terms {
+        copies.push(copy(term)?)?;
     }
+    Ok(copies)
 }
