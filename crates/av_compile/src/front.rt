@@ -35,6 +35,7 @@ pub(crate) fn flattened(
 {
     let tokens = lex(alloc, bytes)?;
     let system = parse(alloc, tokens.as_slice())?;
+    drop(tokens);
     Ok(resolve(alloc, &system, sizes, width)?)
 }
 
