@@ -16,7 +16,7 @@ use std::process::Abort;
 use std::test::Fail;
 
 /// The words, the text, what stands behind it, and the output.
-type Given = (
+type DataRow = (
     &'static [&'static str],
     &'static str,
     &'static str,
@@ -42,7 +42,7 @@ const LONG: &str = "system t () returns (Y : {i|-1<=i<=4095} of integer); let Y 
 fn assert_given(
     rt: &impl Abort,
     alloc: Global,
-    rows: &[Given],
+    rows: &[DataRow],
     status: Status,
 ) -> Result<(), Fail> {
     for (words, text, data, out) in rows {
@@ -52,7 +52,7 @@ fn assert_given(
     Ok(())
 }
 
-const DONE: &[Given] = &[
+const DONE: &[DataRow] = &[
     (WIDTH_8, INCREMENT, TWO_SETS, TWO_RESULTS),
     (
         &["run8", "--width=8", "--"],
@@ -164,7 +164,7 @@ fn each_set_has_its_line_and_its_results(rt: HostRuntime) -> Result<(), Fail> {
     assert_given(&rt, rt.alloc(), DONE, Status::Done)
 }
 
-const REFUSED: &[Given] = &[
+const REFUSED: &[DataRow] = &[
     (WIDTH_8, INCREMENT, "", "refused: no mark\n"),
     (&["run8"], "system (", "", "refused: no mark\n"),
     // faults of the text, of its sizes and of its array, before those of a set
