@@ -61,3 +61,5 @@ pub mod PortLines
 pub mod PortOrder
 pub mod SlotEnds
 pub mod SpotOrigins
+pub mod LikeReadings
+pub mod EqualMaps

@@ -4,12 +4,13 @@ use Rattle.std.specs.Prelude.{slice_get}
 use Rattle.std.proofs.lemmas.List.Elements.{All-contains}
 use Rattle.av_flat.specs.declared.timed.Helper.{Helper}
 use Rattle.av_flat.specs.declared.timed.Timed.{Timed}
-use Rattle.av_flat.specs.Trees.{Piece, Variable, FlatSystem, view_system}
+use Rattle.av_flat.specs.Trees.{Piece, Variable, FlatSystem, view_system, view_variable}
 use Rattle.av_flat.specs.Legal.{IsLegal}
 use Rattle.av_flat.specs.Nodes.{nodes, node_place}
 use Rattle.av_space.specs.declared.cells.Cell.{Cell}
 use Rattle.av_space.specs.declared.cells.Link.{Link}
 use Rattle.av_space.specs.declared.layout.Slot.{Slot}
+use Rattle.av_space.specs.declared.linking.Consumer.{Consumer}
 use Rattle.av_space.specs.declared.layout.Layout.{Layout}
 use Rattle.av_space.specs.declared.stretch.TapReading.{TapReading}
 use Rattle.av_space.specs.Coordinates.{Placing}
@@ -17,12 +18,15 @@ use Rattle.av_space.specs.Occupancy.{AreCells}
 use Rattle.av_space.specs.Links.{AreLinks}
 use Rattle.av_space.specs.Taps.{Tap, taps, IsTapped}
 use Rattle.av_space.specs.Layouts.{IsLayout}
-use Rattle.av_space.specs.inner.Readings.{IsConsumer, IsSiteOn, IsReadingAt, IsReadingOf, AreReadings}
-use Rattle.av_space.specs.inner.Stretches.{HasLinks, IsAt, IsOnBelow, Told, tap_reading}
+use Rattle.av_space.specs.inner.Readings.{IsConsumer, IsReader, IsSiteOn, IsReadingAt, IsReadingOf, AreReadings, AreReadAt, taps_of_reader}
+use Rattle.av_space.specs.inner.Scheduled.{Scheduled, system_of, helpers_of, placings_of, cells_of}
+use Rattle.av_space.specs.inner.Stretches.{HasLinks, IsAt, IsOnBelow, Told, AreByCycle, tap_reading}
+use Rattle.av_flat.proofs.NodeNumbers.{chained_node}
 use Rattle.av_space.proofs.Elements.{in_range}
+use Rattle.av_space.proofs.FineSites.{fine_tap}
 use Rattle.av_space.proofs.JoinedLinks.{retold}
 use Rattle.av_space.proofs.OneReading.{slot_computes}
-use Rattle.av_base.proofs.Lists.{some_is}
+use Rattle.av_base.proofs.Lists.{some_is, there_is}
 
 module _ (t : Timed) (l : Layout) (legal : IsLegal t) (layout : IsLayout t l) (p j n : ℕ) (tap : Tap) (piece : Piece) (slots : List Slot) (is : IsSiteOn (view_system t.flat) t.helpers l.placements l.cells p j n tap piece slots) where
   abbrev Tapped : ℕ → ℕ → ℕ → ℕ → ℕ → Type 0
@@ -90,6 +94,18 @@ site_on s hs placings cells p j n v slots c tap is_tap number e piece is_piece =
   is_tap = is_tap;
   is_piece = ap (slice_get v.pieces) (sym e) ∙ is_piece;
 }
+
+-- the readings of the tap site with the number j of a reader: they are by cycle, and their links are the site's
+pub links_of_reader : (at : Scheduled) (c : Consumer) → IsReader at c → (j : ℕ) (readings : List TapReading) → j < length (taps_of_reader at c) → AreReadAt at c j readings
+    → AreByCycle readings × ((old new : List Link) → HasLinks (Told readings) (IsAt c.number.0 j) old new → HasLinks (IsTapped (system_of at) (helpers_of at) (placings_of at) (cells_of at)) (IsAt c.number.0 j) old new)
+links_of_reader at c reader j readings low h =
+    let s = system_of at in
+    let v = view_variable c.var.now in
+    let tap = there_is (taps_of_reader at c) j low in
+    let fine = fine_tap at.timed reader.scheduled.legal (node_place s c.node.0) v (chained_node s c.node.0 v reader.scheduled.legal.chained reader.is.is_variable) j tap.0 tap.1 in
+    let site = site_on s (helpers_of at) (placings_of at) (cells_of at) c.number.0 j c.node.0 v c.slots.now reader.is tap.0 tap.1 tap.0.place.piece refl fine.piece fine.is_piece in
+    let own = h tap.0 tap.1 fine.piece fine.is_piece in
+    (own.order, λ old new links. site_links at.timed at.layout reader.scheduled.legal reader.scheduled.layout c.number.0 j c.node.0 tap.0 fine.piece c.slots.now site readings own old new links)
 
 -- a cell has no tap sites but those of its node
 pub few_sites : (s : FlatSystem) (hs : List Helper) (placings : List Placing) (cells : List Cell) (p n : ℕ) (v : Variable) (slots : List Slot) → IsConsumer s placings cells p n v slots → (j c q d : ℕ)

@@ -11,3 +11,4 @@ pub mod Showing
 pub mod SpotTaps
 pub mod Apart
 pub mod Scheduled
+pub mod Alike

@@ -2,6 +2,7 @@
 //! listing of where each input point is presented and each computed point is shown.
 #![tactic(auto)]
 
+mod alike;
 mod apart;
 mod array;
 mod cells;

@@ -1,17 +1,18 @@
 //! Links of the array, of all tap sites of all cells.
 
-ghost use Rattle.std.specs.Prelude.{ℕ, ◌≡◌, ◌↔◌, ◌<◌, List as Items, length, Contains, Some, slice_get, slice_index_or, [], map, IfOk, IfSome, OnOk};
+ghost use Rattle.std.specs.Prelude.{ℕ, ◌≡◌, ◌↔◌, ◌<◌, ◌+◌, List as Items, length, IsTrue, Contains, Some, slice_get, slice_index_or, [], map, IfOk, IfSome, OnOk};
 ghost use Rattle.av_flat.specs.Trees.{Piece as PieceSeen, view_piece, view_system, view_variable};
 ghost use Rattle.av_space.specs.declared.layout.Slot.{Slot as SlotSeen};
-ghost use Rattle.av_flat.specs.Nodes.{node_place};
-ghost use Rattle.av_space.specs.Taps.{taps, IsTapped};
+ghost use Rattle.av_space.specs.Taps.{Tap, IsTapped};
+ghost use Rattle.av_space.specs.inner.Alike.{AreAlike};
 ghost use Rattle.av_space.specs.inner.Apart.{AreOfNode};
 ghost use Rattle.av_space.specs.inner.Sites.{tap_of, AreNodeTaps};
-ghost use Rattle.av_space.specs.inner.Readings.{IsSite, HasSite, IsReadingAt, IsReadingOf, AreReadings, IsReader, AreOwn};
+ghost use Rattle.av_space.specs.inner.Readings.{IsSite, HasSite, IsReadingAt, IsReadingOf, AreReadings, IsReader, AreOwn, AreReadAt, AreReadBy, taps_of_reader};
 ghost use Rattle.av_space.specs.inner.Quantified.{LinksOf};
 ghost use Rattle.av_space.specs.inner.Scheduled.{system_of, helpers_of, placings_of, cells_of};
-ghost use Rattle.av_space.specs.inner.Stretches.{HasLinks, IsAt, IsOn, tap_reading};
+ghost use Rattle.av_space.specs.inner.Stretches.{HasLinks, IsOn, tap_reading};
 
+use crate::alike::are_alike;
 use crate::apart::slots_in;
 use crate::cells::Link;
 use crate::layout::Slot;
@@ -107,34 +108,70 @@ fn slots_at(own: &[List<Slot>], piece: usize) -> &[Slot]
     own[piece].as_slice()
 }
 
-// Appends the links of a tap site of a cell.
-fn tap_links(
+// The readings of a tap site of a cell, by cycle.
+fn tap_readings(
     alloc: Global,
     scheduled: &ScheduledSystem<'_>,
     consumer: &Consumer<'_>,
-    number: u32,
     site: &TapSite<'_>,
     own: &[List<Slot>],
-    links: &mut List<Link>,
-) -> Result<(), Memory>
+) -> Result<List<TapReading>, Memory>
     requires consumer { IsReader scheduled.now consumer.now }
-    requires site { slice_get (taps (system_of scheduled.now) (helpers_of scheduled.now) (node_place
-        (system_of scheduled.now) consumer.now.node.0) (view_variable consumer.now.var.now)) number
-        ≡ Some (tap_of site.now) }
+    requires site { (j : ℕ) × (slice_get (taps_of_reader scheduled.now consumer.now) j
+        ≡ Some (tap_of site.now)) }
     requires own { AreOwn (view_variable consumer.now.var.now) consumer.now.slots.now own.now }
-    ensures { OnOk result (HasLinks (IsTapped (system_of scheduled.now)
-        (helpers_of scheduled.now) (placings_of scheduled.now) (cells_of scheduled.now))
-        (IsAt consumer.now.number.0 number) links.old links.new) }
+    ensures { IfOk result (AreReadBy scheduled.now consumer.now (tap_of site.now)) }
 {
     let place = site.piece();
     let piece = piece_at(consumer.var, place);
     let slots = slots_at(own, place);
-    let readings = readings(alloc, scheduled, consumer.node, site, piece, slots)?;
-    let at = TapAt {
-        consumer: consumer.number,
-        site: number,
-    };
-    site_links(at, readings.as_slice(), links)
+    readings(alloc, scheduled, consumer.node, site, piece, slots)
+}
+
+// Whether the tap site with this number is like the one before it.
+fn is_like_the_last(sites: &[TapSite<'_>], number: usize) -> bool
+    requires { number < length sites.now }
+    ensures { IsTrue result → (j : ℕ) × (j + 1 ≡ number)
+        × ((t u : Tap) → slice_get (map tap_of sites.now) j ≡ Some t
+        → slice_get (map tap_of sites.now) number ≡ Some u → AreAlike t u) }
+{
+    if number == 0 {
+        return false;
+    }
+    are_alike(site_at(sites, number - 1), site_at(sites, number))
+}
+
+// Whether the piece with this number has a computation. Nothing is told of it: where it has none, nothing is gained by what the last site read.
+fn has_slots(own: &[List<Slot>], piece: usize) -> bool {
+    match own.get(piece) {
+        Some(slots) => !slots.as_slice().is_empty(),
+        None => false,
+    }
+}
+
+// The readings of the tap site with this number of a cell. They are those of the site before where the two are alike, as they are where a
+// text reads one point many times.
+fn next_readings(
+    alloc: Global,
+    scheduled: &ScheduledSystem<'_>,
+    consumer: &Consumer<'_>,
+    sites: &[TapSite<'_>],
+    own: &[List<Slot>],
+    number: usize,
+    last: List<TapReading>,
+) -> Result<List<TapReading>, Memory>
+    requires consumer { IsReader scheduled.now consumer.now }
+    requires sites { map tap_of sites.now ≡ taps_of_reader scheduled.now consumer.now }
+    requires own { AreOwn (view_variable consumer.now.var.now) consumer.now.slots.now own.now }
+    requires number { number < length sites.now }
+    requires last { (j : ℕ) → j + 1 ≡ number → AreReadAt scheduled.now consumer.now j last }
+    ensures { IfOk result (AreReadAt scheduled.now consumer.now number) }
+{
+    let site = site_at(sites, number);
+    if has_slots(own, site.piece()) && is_like_the_last(sites, number) {
+        return Ok(last);
+    }
+    tap_readings(alloc, scheduled, consumer, site, own)
 }
 
 // Appends the links of all tap sites of a cell.
@@ -147,18 +184,21 @@ fn cell_links(
     links: &mut List<Link>,
 ) -> Result<(), Memory>
     requires consumer { IsReader scheduled.now consumer.now }
-    requires sites { map tap_of sites.now
-        ≡ taps (system_of scheduled.now) (helpers_of scheduled.now)
-        (node_place (system_of scheduled.now) consumer.now.node.0)
-        (view_variable consumer.now.var.now) }
+    requires sites { map tap_of sites.now ≡ taps_of_reader scheduled.now consumer.now }
     requires own { AreOwn (view_variable consumer.now.var.now) consumer.now.slots.now own.now }
     ensures { OnOk result (HasLinks (IsTapped (system_of scheduled.now)
         (helpers_of scheduled.now) (placings_of scheduled.now) (cells_of scheduled.now))
         (IsOn consumer.now.number.0) links.old links.new) }
 {
+    let mut readings = List::new(alloc);
     for number in 0..sites.len() {
-        let site = site_at(sites.as_slice(), number);
-        tap_links(alloc, scheduled, consumer, number as u32, site, own, links)?;
+        let some = sites.as_slice();
+        readings = next_readings(alloc, scheduled, consumer, some, own, number, readings)?;
+        let at = TapAt {
+            consumer: consumer.number,
+            site: number as u32,
+        };
+        site_links(at, readings.as_slice(), links)?;
     }
     Ok(())
 }

@@ -16,7 +16,7 @@ use Rattle.av_space.specs.Coordinates.{Placing}
 use Rattle.av_space.specs.Occupancy.{Computes}
 use Rattle.av_space.specs.Taps.{Way, each, entries, handed, Tap, taps, IsTapRead}
 use Rattle.av_space.specs.Layouts.{AreSlots}
-use Rattle.av_space.specs.inner.Scheduled.{Scheduled, IsScheduled, system_of, placings_of, cells_of}
+use Rattle.av_space.specs.inner.Scheduled.{Scheduled, IsScheduled, system_of, helpers_of, placings_of, cells_of}
 use Rattle.av_space.specs.inner.Stretches.{AreByCycle, tap_reading}
 
 -- ---- sites
@@ -101,6 +101,18 @@ pub record IsConsumer (s : FlatSystem) (placings : List Placing) (cells : List C
 pub record IsReader (at : Scheduled) (c : Consumer) : Type 0 where
   pub scheduled : IsScheduled at
   pub is : IsConsumer (system_of at) (placings_of at) (cells_of at) c.number.0 c.node.0 (view_variable c.var.now) c.slots.now
+
+-- the tap sites of its node
+abbrev pub taps_of_reader : Scheduled → Consumer → List Tap
+taps_of_reader at c = taps (system_of at) (helpers_of at) (node_place (system_of at) c.node.0) (view_variable c.var.now)
+
+-- all readings of a tap site on a cell
+abbrev pub AreReadBy : Scheduled → Consumer → Tap → List TapReading → Type 0
+AreReadBy at c t readings = (piece : Piece) → slice_get (view_variable c.var.now).pieces t.place.piece ≡ Some piece → AreReadings (IsReadingOf (system_of at) (placings_of at) (cells_of at) c.node.0 t piece c.slots.now) readings
+
+-- of the tap site with the number j
+abbrev pub AreReadAt : Scheduled → Consumer → ℕ → List TapReading → Type 0
+AreReadAt at c j readings = (t : Tap) → slice_get (taps_of_reader at c) j ≡ Some t → AreReadBy at c t readings
 
 -- of each of the first pieces of a variable the computations that are points of it
 pub record AreOwnTo (v : Variable) (slots : List Slot) (n : ℕ) (own : List (List Slot)) : Type 0 where
