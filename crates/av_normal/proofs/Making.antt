@@ -11,7 +11,9 @@ use Rattle.av_flat.specs.Quantities.{piece_count, body_sets}
 use Rattle.av_flat.proofs.Parts.{length_parts}
 use Rattle.av_normal.specs.inner.Numbered.{part_at}
 use Rattle.av_normal.specs.inner.ReductionSets.{IsFillable, has_reduction}
-use Rattle.av_normal.specs.inner.Making.{held, held_parts, StandsIn, IsMade, AreMade, AreAdded, IsHolder, Continues}
+use Rattle.av_normal.specs.NormalForm.{HasNormalSets}
+use Rattle.av_normal.specs.inner.AllPieces.{IsPieceOfPart}
+use Rattle.av_normal.specs.inner.Making.{held, held_parts, filled_part, bodies_measured, StandsFor, StandsIn, IsMade, AreMade, AreAdded, IsHolder, IsFilledTo, Continues}
 use Rattle.av_normal.proofs.Limits.{all_sources}
 use Rattle.av_base.proofs.Lists.{nothing_left, all_parts}
 use Rattle.av_base.proofs.Truths.{neither}
@@ -22,29 +24,6 @@ pub all_at : {X Y : Type 0} (P : Y → Type 0) (f : X → Y) (xs : List X) (i : 
 all_at P f [] i x l e h = absurd (omega (arith, l))
 all_at P f (y ∷ xs) zero x l e h = subst (λ z. P (f z)) (sym e) (All-head P (f y) (map f xs) h)
 all_at P f (y ∷ xs) (suc i) x l e h = all_at P f xs i x (omega (arith, l)) e (All-tail P (f y) (map f xs) h)
-
--- the part that has become the piece at this place
-pub record IsMadeOf (dim : ℕ) (ps : List Part) (i : ℕ) (q : Piece) : Type 0 where
-  pub part : Part
-  pub rest : drop i ps ≡ part ∷ drop (i + 1) ps
-  pub made : IsMade dim part q
-
-pub made_at : {X : Type 0} (f : X → Piece) (dim : ℕ) (ps : List Part) (xs : List X) (i : ℕ) (x : X) → i < length xs → x ≡ get_or xs i x → AreMade dim ps (map f xs) → IsMadeOf dim ps i (f x)
-made_at f dim ps xs i x l e h = let r = go ps xs i l e h in record { part = r.0; rest = r.1 ∙ ap (λ k. r.0 ∷ drop k ps) (sym (add-one i)); made = r.2 }
-  where
-    go : (ps : List Part) (xs : List _) (i : ℕ) → i < length xs → x ≡ get_or xs i x → AreMade dim ps (map f xs) → (p : Part) × (drop i ps ≡ p ∷ drop (suc i) ps) × IsMade dim p (f x)
-    go [] [] i l e h = absurd (omega (arith, l))
-    go [] (y ∷ xs) i l e h = absurd h
-    go (p ∷ ps) [] i l e h = absurd h
-    go (p ∷ ps) (y ∷ xs) zero l e h = (p, refl, subst (λ z. IsMade dim p (f z)) (sym e) h.0)
-    go (p ∷ ps) (y ∷ xs) (suc i) l e h = go ps xs i (omega (arith, l)) e h.1
-
-pub parts_end : {X : Type 0} (f : X → Piece) (dim : ℕ) (ps : List Part) (xs : List X) (i : ℕ) → length xs ≤ i → AreMade dim ps (map f xs) → drop i ps ≡ []
-parts_end f dim [] xs zero l h = refl
-parts_end f dim [] xs (suc i) l h = refl
-parts_end f dim (p ∷ ps) [] i l h = absurd h
-parts_end f dim (p ∷ ps) (y ∷ xs) zero l h = absurd (omega (arith, l))
-parts_end f dim (p ∷ ps) (y ∷ xs) (suc i) l h = parts_end f dim ps xs i (omega (arith, l)) h.1
 
 -- the part with this number comes next
 pub held_at : (rows : List Form) (ps : List Part) (k : ℕ) → k < length ps → drop k (with_rows rows ps) ≡ held rows (part_at ps k) ∷ drop (k + 1) (with_rows rows ps)
@@ -136,3 +115,57 @@ itself d t = record { same = λ z h. refl; bodies = λ rows. refl; fillable = λ
 
 pub a_constant : (d : Set) (t : Tree) (k : ℕ) → ((z : List ℤ) → Has d z → ⊥) → has_reduction t ≡ false → StandsIn d t (constant k)
 a_constant d t k none e = record { same = λ z h. absurd (none z h); bodies = λ rows. sym (no_bodies t e rows); fillable = λ n f. tt }
+
+-- ---- pieces without reductions
+
+-- a tree without reductions takes no rows
+pub plain_sets : (n : ℕ) (t : Tree) → IsFillable n t → has_reduction t ≡ false → (rows : List Form) → HasNormalSets (filled rows t) t
+plain_sets n (reference place m) f e rows = (refl, refl)
+plain_sets n (constant k) f e rows = refl
+plain_sets n (binary s l r) f e rows =
+    let p = neither (has_reduction l) (has_reduction r) e in
+    (refl, plain_sets n l f.0 p.0 rows, plain_sets n r f.1 p.1 rows)
+plain_sets n (choice l c r x y) f e rows =
+    let first = neither (has_reduction l) (has_reduction r || (has_reduction x || has_reduction y)) e in
+    let second = neither (has_reduction r) (has_reduction x || has_reduction y) first.1 in
+    let third = neither (has_reduction x) (has_reduction y) second.1 in
+    (refl, plain_sets n l f.0 first.0 rows, plain_sets n r f.1 second.0 rows, plain_sets n x f.2 third.0 rows, plain_sets n y f.3 third.1 rows)
+plain_sets n (reduction o m t set) f e rows = absurd cc
+plain_sets n (restriction d t) f e rows = absurd f
+plain_sets n (cases ts) f e rows = absurd f
+plain_sets n (dependence m t) f e rows = absurd f
+plain_sets n (pick place choices k) f e rows = absurd f
+
+-- so the piece of a part without reductions is as it was made
+pub plain_piece : (dim : ℕ) (p : Part) (q : Piece) → IsHolder q → has_reduction q.tree ≡ false → IsMade dim p q → IsPieceOfPart dim (filled_part p) q
+plain_piece dim p q holder plain made = record {
+  domain = made.domain;
+  tree = λ z h. subst (λ (t : Tree). HasNormalSets (filled p.rows t) q.tree) (made.tree.same z h) (plain_sets q.domain.dim q.tree holder.fillable plain p.rows);
+  small = made.small;
+}
+
+-- and it has no bodies
+pub plain_bodies : (dim : ℕ) (p : Part) (q : Piece) → has_reduction q.tree ≡ false → IsMade dim p q → body_sets (filled p.rows p.tree) ≡ []
+plain_bodies dim p q plain made = sym (made.tree.bodies p.rows) ∙ no_bodies q.tree plain p.rows
+
+-- ---- pieces that are taken one after the other
+
+-- the part of the next piece, and those behind it
+pub record IsNextFilled (A : List Part → List Piece → Type 0) (dim : ℕ) (ps : List Part) (made : List Piece) (q : Piece) (later : List Piece) : Type 0 where
+  pub part : Part
+  pub rest : List Part
+  pub made_is : IsMade dim part q
+  pub are : AreMade dim rest later
+  pub left : StandsFor (bodies_measured (part ∷ rest)) (bodies_measured ps)
+  pub done : Continues A (map filled_part ps) made (filled_part part ∷ map filled_part rest)
+
+pub next_filled : (A : List Part → List Piece → Type 0) (dim : ℕ) (ps : List Part) (made : List Piece) (q : Piece) (later : List Piece) → IsFilledTo A dim ps made (q ∷ later) → IsNextFilled A dim ps made q later
+next_filled A dim ps made q later h = go h.rest h.are h.left h.done
+  where
+    go : (rest : List Part) → AreMade dim rest (q ∷ later) → StandsFor (bodies_measured rest) (bodies_measured ps) → Continues A (map filled_part ps) made (map filled_part rest) → IsNextFilled A dim ps made q later
+    go [] a l d = absurd a
+    go (p ∷ rest) a l d = record { part = p; rest = rest; made_is = a.0; are = a.1; left = l; done = d }
+
+pub none_filled : (dim : ℕ) (ps : List Part) → AreMade dim ps [] → ps ≡ []
+none_filled dim [] a = refl
+none_filled dim (p ∷ ps) a = absurd a

@@ -26,7 +26,7 @@ use crate::measure::{narrowed, rows_fit};
 use crate::opposed::are_contrary;
 use crate::outline::outline_at;
 use crate::piece::tree_at;
-use crate::reduction_sets::filled;
+use crate::reduction_sets::{filled, has_reduction};
 use crate::sketch::sketch_tree;
 use av_base::{List, Memory, Word};
 use av_flat::{Flat, Piece, Tree, Var};
@@ -198,34 +198,41 @@ fn pieces_made(
     Ok(pieces)
 }
 
-// A piece with its rows in the sets of its reductions.
-fn filled_piece(alloc: Global, piece: &Piece) -> Result<Piece, NormalFault>
-    requires { IsHolder (view_piece piece.now) }
+// A piece with its rows in the sets of its reductions; where it has none, its tree stays as it is. The rows are copied, since the list in
+// which they were gathered has room for many more.
+fn filled_piece(alloc: Global, piece: Piece) -> Result<Piece, NormalFault>
+    requires { IsHolder (view_piece piece) }
     ensures pieces { IfOk result (λ q. (dim : ℕ) (p : Part)
-        → IsMade dim p (view_piece piece.now) → IsPieceOfPart dim (filled_part p) (view_piece q)) }
-    ensures narrow { OnOk result ((dim : ℕ) (p : Part) → IsMade dim p (view_piece piece.now)
+        → IsMade dim p (view_piece piece) → IsPieceOfPart dim (filled_part p) (view_piece q)) }
+    ensures narrow { OnOk result ((dim : ℕ) (p : Part) → IsMade dim p (view_piece piece)
         → AreNarrow (map of_set (body_sets (filled p.rows p.tree)))) }
-    ensures wide { IfErr result (λ fault. (dim : ℕ) (p : Part) → IsMade dim p (view_piece piece.now)
+    ensures wide { IfErr result (λ fault. (dim : ℕ) (p : Part) → IsMade dim p (view_piece piece)
         → IsWide (map of_set (body_sets (filled p.rows p.tree))) fault) }
 {
-    let tree = filled(alloc, &piece.domain, &piece.tree)?;
     let domain = copy_set(alloc, &piece.domain)?;
+    if !has_reduction(&piece.tree) {
+        return Ok(Piece {
+            domain,
+            tree: piece.tree,
+        });
+    }
+    let tree = filled(alloc, &piece.domain, &piece.tree)?;
     Ok(Piece { domain, tree })
 }
 
 // The pieces with their rows in the sets of their reductions.
-fn trees_filled(alloc: Global, pieces: &[Piece]) -> Result<List<Piece>, NormalFault>
-    requires { All IsHolder (map view_piece pieces.now) }
+fn trees_filled(alloc: Global, pieces: List<Piece>) -> Result<List<Piece>, NormalFault>
+    requires { All IsHolder (map view_piece pieces) }
     ensures pieces { IfOk result (λ all_pieces. (dim : ℕ) (ps : Items Part)
-        → AreMade dim ps (map view_piece pieces.now)
+        → AreMade dim ps (map view_piece pieces)
         → ArePiecesOfParts dim (map filled_part ps) (map view_piece all_pieces)) }
     ensures narrow { OnOk result ((dim : ℕ) (ps : Items Part)
-        → AreMade dim ps (map view_piece pieces.now) → AreNarrow (bodies_measured ps)) }
+        → AreMade dim ps (map view_piece pieces) → AreNarrow (bodies_measured ps)) }
     ensures wide { IfErr result (λ fault. (dim : ℕ) (ps : Items Part)
-        → AreMade dim ps (map view_piece pieces.now) → IsWide (bodies_measured ps) fault) }
+        → AreMade dim ps (map view_piece pieces) → IsWide (bodies_measured ps) fault) }
 {
     let mut all_pieces = List::new(alloc);
-    for piece in pieces {
+    for piece in pieces.into_vec() {
         all_pieces.push(filled_piece(alloc, piece)?)?;
     }
     Ok(all_pieces)
@@ -247,7 +254,7 @@ fn with_all_pieces(alloc: Global, flat: &Flat, var: &Var) -> Result<Var, NormalF
     domain_fits(alloc, &var.domain)?;
     equation_fits(alloc, equation)?;
     let made = pieces_made(alloc, flat.vars.as_slice(), &var.domain, equation)?;
-    let pieces = trees_filled(alloc, made.as_slice())?;
+    let pieces = trees_filled(alloc, made)?;
     Ok(var.with_pieces(alloc, pieces)?)
 }
 

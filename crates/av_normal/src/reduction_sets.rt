@@ -9,7 +9,7 @@ ghost use Rattle.av_flat.specs.Pieces.{filled};
 ghost use Rattle.av_flat.specs.Quantities.{of_set, body_sets};
 ghost use Rattle.av_normal.specs.NormalForm.{HasNormalSets};
 ghost use Rattle.av_normal.specs.Searches.{IsNarrow, AreNarrow, IsWide};
-ghost use Rattle.av_normal.specs.inner.ReductionSets.{inner_of, IsFoldable, IsFillable};
+ghost use Rattle.av_normal.specs.inner.ReductionSets.{has_reduction, inner_of, IsFoldable, IsFillable};
 
 use crate::NormalFault;
 use crate::measure::narrowed;
@@ -44,6 +44,26 @@ pub(crate) fn inner_set(
     let both = held.meet(alloc, set)?;
     let inner = narrowed(both)?;
     Ok(inner)
+}
+
+/// Whether a reduction is in the tree of a piece.
+pub(crate) fn has_reduction(tree: &Tree) -> bool
+    ensures { result ≡ has_reduction (view tree.now) }
+{
+    match tree {
+        Tree::Binary { left, right, .. } => has_reduction(left) || has_reduction(right),
+        Tree::Choose {
+            left,
+            right,
+            yes,
+            no,
+            ..
+        } => {
+            has_reduction(left) || has_reduction(right) || has_reduction(yes) || has_reduction(no)
+        }
+        Tree::Reduce { .. } => true,
+        _ => false,
+    }
 }
 
 /// The tree of a piece with the rows of what holds it in the set of each reduction, outer ones before inner ones.

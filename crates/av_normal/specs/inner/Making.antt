@@ -91,3 +91,10 @@ pub record IsHolder (q : Piece) : Type 0 where
 -- whatever the rest gives, behind what was made it is what all gives
 abbrev pub Continues : {X Y : Type 0} → (List X → List Y → Type 0) → List X → List Y → List X → Type 0
 Continues A all made rest = (ys : _) → A rest ys → A all (made ++ ys)
+
+-- these parts are still to be taken; what was made of those before stands for all
+pub record IsFilledTo (A : List Part → List Piece → Type 0) (dim : ℕ) (ps : List Part) (made later : List Piece) : Type 0 where
+  pub rest : List Part
+  pub are : AreMade dim rest later
+  pub left : StandsFor (bodies_measured rest) (bodies_measured ps)
+  pub done : Continues A (map filled_part ps) made (map filled_part rest)

@@ -1,4 +1,4 @@
-use Rattle.std.proofs.Common.{ℕ, ◌<◌, ◌≤◌, ◌+◌, List, [], ◌++◌, length, map, drop, rules, subst, sym, All}
+use Rattle.std.proofs.Common.{ℕ, ◌<◌, ◌≤◌, ◌+◌, List, [], ◌++◌, length, map, drop, rules, subst}
 use Rattle.std.proofs.lemmas.List.Elements.{All-append}
 use Rattle.std.proofs.lemmas.Result.{err_from_is_err_and}
 use Rattle.av_affine.specs.Forms.{IsWithinLimits}

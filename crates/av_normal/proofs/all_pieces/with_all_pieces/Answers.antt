@@ -7,7 +7,7 @@ use Rattle.av_flat.specs.Trees.{Piece, view_piece, view_variable, view_system}
 use Rattle.av_flat.specs.Signatures.{signatures}
 use Rattle.av_normal.specs.inner.Numbered.{signatures_of}
 use Rattle.av_normal.specs.inner.UnderMaps.{StandsUnder}
-use Rattle.av_normal.specs.inner.Making.{held_parts, IsParted, IsHolder}
+use Rattle.av_normal.specs.inner.Making.{held_parts, IsParted}
 use Rattle.av_normal.proofs.Trying.{pieces_are, all_narrow, wide_maps, wide_pieces, wide_bodies}
 use Rattle.av_normal.proofs.Making.{holders}
 use Rattle.av_normal.proofs.Parted.{equation_stands, equation_parted, parts_fillable}
@@ -48,7 +48,7 @@ trees_filled-requires c =
     let maps = rw c.as_slice-equation.ensures at c.in_ok-equation_fits.ensures.narrow in
     let made = rw (c.as_slice.ensures, c.as_slice-equation.ensures) at c.in_ok-made.ensures.made in
     let holds = holders v.domain.dim own (map view_piece c.in_ok-made.made) made (parts_fillable (view_system c.args.flat.now) v c.requires.variable maps) in
-    subst (λ (ps : List PieceMade). All IsHolder (map view_piece ps)) (sym c.as_slice-2.ensures) holds
+    holds
 
 pub returns-in_err-pieces-clause-wide : goal.returns-in_err-pieces-clause-wide
 returns-in_err-pieces-clause-wide c =
@@ -59,7 +59,7 @@ returns-in_err-pieces-clause-wide c =
     let maps = rw c.as_slice-equation.ensures at c.in_ok-equation_fits.ensures.narrow in
     let made = rw (c.as_slice.ensures, c.as_slice-equation.ensures) at c.in_ok-made.ensures.made in
     let pieces = rw (c.as_slice.ensures, c.as_slice-equation.ensures) at c.in_ok-made.ensures.narrow in
-    let w = rw c.as_slice-2.ensures at c.in_err-pieces.ensures.wide in
+    let w = c.in_err-pieces.ensures.wide in
     let p = err_from_is_err_and c.from_residual-in_err-pieces.result c.from_residual-in_err-pieces.ensures.1 in
     rw (p.1, p.2) (wide_bodies vs v f c.in_ok-domain_fits.ensures.narrow maps pieces (w v.domain.dim own made))
 
@@ -69,7 +69,7 @@ returns-clause-pieces c =
     let vs = signatures (view_system c.args.flat.now) in
     let own = held_parts vs v.domain.rows v.pieces in
     let made = rw (c.as_slice.ensures, c.as_slice-equation.ensures) at c.in_ok-made.ensures.made in
-    let all_pieces = rw c.as_slice-2.ensures at c.in_ok-pieces.ensures.pieces in
+    let all_pieces = c.in_ok-pieces.ensures.pieces in
     let to = c.in_ok-with_pieces.ensures in
     record {
       name = to.name;
@@ -87,5 +87,5 @@ returns-clause-narrow c =
     let maps = rw c.as_slice-equation.ensures at c.in_ok-equation_fits.ensures.narrow in
     let made = rw (c.as_slice.ensures, c.as_slice-equation.ensures) at c.in_ok-made.ensures.made in
     let pieces = rw (c.as_slice.ensures, c.as_slice-equation.ensures) at c.in_ok-made.ensures.narrow in
-    let bodies = rw c.as_slice-2.ensures at c.in_ok-pieces.ensures.narrow in
+    let bodies = c.in_ok-pieces.ensures.narrow in
     all_narrow vs v c.in_ok-domain_fits.ensures.narrow maps pieces (bodies v.domain.dim own made)
