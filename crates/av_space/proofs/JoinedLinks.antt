@@ -1,12 +1,12 @@
 -- Links of some tap sites joined with those of later ones.
-use Rattle.std.proofs.Common.{◌≡◌, ℕ, ◌+◌, ◌<◌, ◌⊎◌, inl, inr, List, [], ◌++◌, sym, ap, ◌∙◌, arith, append_assoc, append-nil, get_or}
+use Rattle.std.proofs.Common.{◌≡◌, ℕ, ◌+◌, ◌<◌, ◌≤◌, ◌⊎◌, inl, inr, List, [], ◌++◌, sym, ap, ◌∙◌, arith, append_assoc, append-nil, get_or}
 use Rattle.std.specs.Prelude.{Contains}
 use Rattle.std.proofs.lemmas.Bool.{cases_lt}
 use Rattle.std.proofs.lemmas.List.Elements.{All-contains, All-nil, All-append, All-weaker, Contains-append_left, Contains-append_right}
 use Rattle.av_depend.proofs.Listed.{pairs_joined}
 use Rattle.av_space.specs.declared.cells.Link.{Link}
 use Rattle.av_space.specs.Links.{IsLinkBefore}
-use Rattle.av_space.specs.inner.Stretches.{IsStretchOf, AreNeighboursOf, AreApartBy, AreLinksIn, HasLinks, IsAt, IsOn, IsOnBelow, IsAmong}
+use Rattle.av_space.specs.inner.Stretches.{IsStretchOf, AreNeighboursOf, AreApartBy, AreLinksIn, HasLinks, IsAt, IsOn, IsOnBelow, IsBetween}
 
 -- ---- the same links under other readings or of other sites
 
@@ -103,17 +103,25 @@ none_put T In old none = record { added = []; new_is = sym (append-nil old); are
 pub one_more : (i k : ℕ) → i < k + 1 → (i < k) ⊎ (i ≡ k)
 one_more i k l = elim (cases_lt i k) [ inl h ↦ inl h | inr h ↦ inr (omega (arith, l, h)) ]
 
--- one more site of a cell
-pub among_more : (T : ℕ → ℕ → ℕ → ℕ → ℕ → Type 0) (p j : ℕ) (old mid new : List Link) → HasLinks T (IsAmong p j) old mid → HasLinks T (IsAt p j) mid new → HasLinks T (IsAmong p (j + 1)) old new
-among_more T p j old mid new h g = of_others T (Either (IsAmong p j) (IsAt p j)) (IsAmong p (j + 1)) old new narrow (λ k i c q d a t. wide k i a)
-    (both_put T (IsAmong p j) (IsAt p j) old mid new (λ k i m n a b. inr (a.0 ∙ sym b.0, (let l = a.1 in let e = b.1 in omega (arith, l, e)))) h g)
+-- the sites of a cell from one number on up to another, and from there on
+pub between_more : (T : ℕ → ℕ → ℕ → ℕ → ℕ → Type 0) (p a b c : ℕ) (old mid new : List Link) → a ≤ b → b ≤ c → HasLinks T (IsBetween p a b) old mid → HasLinks T (IsBetween p b c) mid new → HasLinks T (IsBetween p a c) old new
+between_more T p a b c old mid new low high h g = of_others T (Either (IsBetween p a b) (IsBetween p b c)) (IsBetween p a c) old new narrow (λ k i x q d e t. wide k i e)
+    (both_put T (IsBetween p a b) (IsBetween p b c) old mid new (λ k i m n e f. inr (e.0 ∙ sym f.0, (let l = e.2 in let r = f.1 in omega (arith, l, r)))) h g)
   where
-    narrow : (k i : ℕ) → Either (IsAmong p j) (IsAt p j) k i → IsAmong p (j + 1) k i
-    narrow k i (inl a) = (a.0, (let l = a.1 in omega (arith, l)))
-    narrow k i (inr b) = (b.0, (let e = b.1 in omega (arith, e)))
+    narrow : (k i : ℕ) → Either (IsBetween p a b) (IsBetween p b c) k i → IsBetween p a c k i
+    narrow k i (inl e) = (e.0, e.1, (let l = e.2 in omega (arith, l, high)))
+    narrow k i (inr f) = (f.0, (let l = f.1 in omega (arith, l, low)), f.2)
 
-    wide : (k i : ℕ) → IsAmong p (j + 1) k i → Either (IsAmong p j) (IsAt p j) k i
-    wide k i a = elim (one_more i j a.1) [ inl l ↦ inl (a.0, l) | inr e ↦ inr (a.0, e) ]
+    wide : (k i : ℕ) → IsBetween p a c k i → Either (IsBetween p a b) (IsBetween p b c) k i
+    wide k i e = elim (cases_lt i b) [ inl l ↦ inl (e.0, e.1, l) | inr r ↦ inr (e.0, (omega (arith, r)), e.2) ]
+
+-- one site
+pub at_between : (T : ℕ → ℕ → ℕ → ℕ → ℕ → Type 0) (p j : ℕ) (old new : List Link) → HasLinks T (IsAt p j) old new → HasLinks T (IsBetween p j (j + 1)) old new
+at_between T p j old new h = of_others T (IsAt p j) (IsBetween p j (j + 1)) old new (λ k i e. (e.0, (let s = e.1 in omega (arith, s)), (let s = e.1 in omega (arith, s)))) (λ k i c q d e t. (e.0, (let l = e.1 in let m = e.2 in omega (arith, l, m)))) h
+
+-- none yet
+pub none_between : (T : ℕ → ℕ → ℕ → ℕ → ℕ → Type 0) (p a : ℕ) (old : List Link) → HasLinks T (IsBetween p a a) old old
+none_between T p a old = none_put T (IsBetween p a a) old (λ k i c q d e t. let l = e.1 in let m = e.2 in omega (arith, l, m))
 
 -- one more cell
 pub below_more_cells : (T : ℕ → ℕ → ℕ → ℕ → ℕ → Type 0) (p : ℕ) (old mid new : List Link) → HasLinks T (IsOnBelow p) old mid → HasLinks T (IsOn p) mid new → HasLinks T (IsOnBelow (p + 1)) old new

@@ -44,6 +44,7 @@ pub mod JoinedLinks
 pub mod SlotReadings
 pub mod FineSites
 pub mod SiteLinks
+pub mod SiteRuns
 pub mod NodeTaps
 pub mod OneLinks
 pub mod OneCount

@@ -1,12 +1,13 @@
 -- The links of one tap site on a cell are the stretches of its readings.
 use Rattle.std.proofs.Common.{◌≡◌, ℕ, ◌<◌, ◌≤◌, List, [], ◌++◌, get_or, length, refl, sym, ap, subst, ◌∙◌, arith, Some}
-use Rattle.std.specs.Prelude.{slice_get}
+use Rattle.std.specs.Prelude.{slice_get, Contains}
 use Rattle.std.proofs.lemmas.List.Elements.{All-contains}
 use Rattle.av_flat.specs.declared.timed.Helper.{Helper}
 use Rattle.av_flat.specs.declared.timed.Timed.{Timed}
 use Rattle.av_flat.specs.Trees.{Piece, Variable, FlatSystem, view_system, view_variable}
 use Rattle.av_flat.specs.Legal.{IsLegal}
 use Rattle.av_flat.specs.Nodes.{nodes, node_place}
+use Rattle.av_flat.specs.Points.{has}
 use Rattle.av_space.specs.declared.cells.Cell.{Cell}
 use Rattle.av_space.specs.declared.cells.Link.{Link}
 use Rattle.av_space.specs.declared.layout.Slot.{Slot}
@@ -18,13 +19,15 @@ use Rattle.av_space.specs.Occupancy.{AreCells}
 use Rattle.av_space.specs.Links.{AreLinks}
 use Rattle.av_space.specs.Taps.{Tap, taps, IsTapped}
 use Rattle.av_space.specs.Layouts.{IsLayout}
-use Rattle.av_space.specs.inner.Readings.{IsConsumer, IsReader, IsSiteOn, IsReadingAt, IsReadingOf, AreReadings, AreReadAt, taps_of_reader}
+use Rattle.av_space.specs.inner.Readings.{IsConsumer, IsReader, IsSiteOn, IsReadingAt, IsReadingOf, AreReadings, AreReadAt, AreOwn, taps_of_reader}
+use Rattle.av_space.specs.inner.Runs.{IsSiteRun}
 use Rattle.av_space.specs.inner.Scheduled.{Scheduled, system_of, helpers_of, placings_of, cells_of}
-use Rattle.av_space.specs.inner.Stretches.{HasLinks, IsAt, IsOnBelow, Told, AreByCycle, tap_reading}
+use Rattle.av_space.specs.inner.Stretches.{HasLinks, IsAt, IsBetween, IsOnBelow, Told, AreByCycle, tap_reading}
+use Rattle.av_depend.proofs.Adds.{among_filter}
 use Rattle.av_flat.proofs.NodeNumbers.{chained_node}
 use Rattle.av_space.proofs.Elements.{in_range}
 use Rattle.av_space.proofs.FineSites.{fine_tap}
-use Rattle.av_space.proofs.JoinedLinks.{retold}
+use Rattle.av_space.proofs.JoinedLinks.{retold, none_put}
 use Rattle.av_space.proofs.OneReading.{slot_computes}
 use Rattle.av_base.proofs.Lists.{some_is, there_is}
 
@@ -55,7 +58,7 @@ module _ (t : Timed) (l : Layout) (legal : IsLegal t) (layout : IsLayout t l) (p
     computed = r.is.computed;
   }
 
-  from_tapped : (c q d : ℕ) → Tapped p j c q d → Of c q d
+  pub from_tapped : (c q d : ℕ) → Tapped p j c q d → Of c q d
   from_tapped c q d r =
       let s = view_system t.flat in
       let cell : r.computes.cell ≡ is.cell = some_is r.computes.cell is.cell (sym r.computes.is_cell ∙ is.is_cell) in
@@ -106,6 +109,44 @@ links_of_reader at c reader j readings low h =
     let site = site_on s (helpers_of at) (placings_of at) (cells_of at) c.number.0 j c.node.0 v c.slots.now reader.is tap.0 tap.1 tap.0.place.piece refl fine.piece fine.is_piece in
     let own = h tap.0 tap.1 fine.piece fine.is_piece in
     (own.order, λ old new links. site_links at.timed at.layout reader.scheduled.legal reader.scheduled.layout c.number.0 j c.node.0 tap.0 fine.piece c.slots.now site readings own old new links)
+
+-- the piece of a tap site of a reader, among the computations by pieces
+pub piece_of_reader : (at : Scheduled) (c : Consumer) → IsReader at c → (own : List (List Slot)) → AreOwn (view_variable c.var.now) c.slots.now own → (j : ℕ) (tap : Tap) → slice_get (taps_of_reader at c) j ≡ Some tap
+    → tap.place.piece < length own
+piece_of_reader at c reader own are j tap is_tap =
+    let s = system_of at in
+    let v = view_variable c.var.now in
+    let fine = fine_tap at.timed reader.scheduled.legal (node_place s c.node.0) v (chained_node s c.node.0 v reader.scheduled.legal.chained reader.is.is_variable) j tap is_tap in
+    let low = in_range v.pieces tap.place.piece fine.piece fine.is_piece in
+    let many = are.number in
+    omega (arith, low, many)
+
+-- a tap site reads nothing on a cell where its piece has no computation
+pub none_of_empty : (at : Scheduled) (c : Consumer) → IsReader at c → (own : List (List Slot)) → AreOwn (view_variable c.var.now) c.slots.now own → (j : ℕ) (tap : Tap) → slice_get (taps_of_reader at c) j ≡ Some tap
+    → slice_get own tap.place.piece ≡ Some [] → (x q d : ℕ) → IsTapped (system_of at) (helpers_of at) (placings_of at) (cells_of at) c.number.0 j x q d → ⊥
+none_of_empty at c reader own are j tap is_tap empty x q d tapped =
+    let s = system_of at in
+    let v = view_variable c.var.now in
+    let fine = fine_tap at.timed reader.scheduled.legal (node_place s c.node.0) v (chained_node s c.node.0 v reader.scheduled.legal.chained reader.is.is_variable) j tap is_tap in
+    let site = site_on s (helpers_of at) (placings_of at) (cells_of at) c.number.0 j c.node.0 v c.slots.now reader.is tap is_tap tap.place.piece refl fine.piece fine.is_piece in
+    let r = from_tapped at.timed at.layout reader.scheduled.legal reader.scheduled.layout c.number.0 j c.node.0 tap fine.piece c.slots.now site x q d tapped in
+    let none = are.each tap.place.piece fine.piece [] fine.is_piece empty in
+    let here = among_filter (λ (y : Slot). has fine.piece.domain y.point) c.slots.now (record { cycle = x; point = r.point }) r.is_slot r.is.within in
+    let there : Contains [] (record { cycle = x; point = r.point }) = subst (λ (ts : List Slot). Contains ts (record { cycle = x; point = r.point })) (sym none) here in
+    let low = there.1 in
+    omega (arith, low)
+
+-- nor do the sites of a run
+pub empty_run : (at : Scheduled) (c : Consumer) → IsReader at c → (own : List (List Slot)) → AreOwn (view_variable c.var.now) c.slots.now own → (first end : ℕ) → IsSiteRun (taps_of_reader at c) first end → (tap : Tap)
+    → slice_get (taps_of_reader at c) first ≡ Some tap → slice_get own tap.place.piece ≡ Some [] → (old : List Link)
+    → HasLinks (IsTapped (system_of at) (helpers_of at) (placings_of at) (cells_of at)) (IsBetween c.number.0 first end) old old
+empty_run at c reader own are first end run tap is_tap empty old =
+    none_put (IsTapped (system_of at) (helpers_of at) (placings_of at) (cells_of at)) (IsBetween c.number.0 first end) old (λ p j x q d e tapped.
+    let high = e.2 in
+    let within = run.within in
+    let other = there_is (taps_of_reader at c) j (omega (arith, high, within)) in
+    let same = run.one_piece j tap other.0 e.1 e.2 is_tap other.1 in
+    none_of_empty at c reader own are j other.0 other.1 (ap (slice_get own) same ∙ empty) x q d (subst (λ (k : ℕ). IsTapped (system_of at) (helpers_of at) (placings_of at) (cells_of at) k j x q d) e.0 tapped))
 
 -- a cell has no tap sites but those of its node
 pub few_sites : (s : FlatSystem) (hs : List Helper) (placings : List Placing) (cells : List Cell) (p n : ℕ) (v : Variable) (slots : List Slot) → IsConsumer s placings cells p n v slots → (j c q d : ℕ)

@@ -4,6 +4,7 @@ pub mod NodePieces
 pub mod Stretches
 pub mod Sites
 pub mod Readings
+pub mod Runs
 pub mod Laying
 pub mod Lengths
 pub mod Quantified

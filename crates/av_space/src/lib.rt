@@ -26,6 +26,7 @@ mod points;
 mod ports;
 mod ranked;
 mod reading;
+mod runs;
 mod scheduled;
 mod shown;
 mod spots;

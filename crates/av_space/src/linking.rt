@@ -9,8 +9,9 @@ ghost use Rattle.av_space.specs.inner.Apart.{AreOfNode};
 ghost use Rattle.av_space.specs.inner.Sites.{tap_of, AreNodeTaps};
 ghost use Rattle.av_space.specs.inner.Readings.{IsSite, HasSite, IsReadingAt, IsReadingOf, AreReadings, IsReader, AreOwn, AreReadAt, AreReadBy, taps_of_reader};
 ghost use Rattle.av_space.specs.inner.Quantified.{LinksOf};
+ghost use Rattle.av_space.specs.inner.Runs.{IsSiteRun, AreRuns};
 ghost use Rattle.av_space.specs.inner.Scheduled.{system_of, helpers_of, placings_of, cells_of};
-ghost use Rattle.av_space.specs.inner.Stretches.{HasLinks, IsOn, tap_reading};
+ghost use Rattle.av_space.specs.inner.Stretches.{HasLinks, IsOn, IsBetween, tap_reading};
 
 use crate::alike::are_alike;
 use crate::apart::slots_in;
@@ -19,6 +20,7 @@ use crate::layout::Slot;
 use crate::locate::locate;
 use crate::numbers::CellNumber;
 use crate::reading::{is_in, read_at};
+use crate::runs::{SiteRun, node_runs};
 use crate::scheduled::ScheduledSystem;
 use crate::stretch::{TapAt, TapReading, site_links};
 use crate::tap::TapSite;
@@ -141,16 +143,8 @@ fn is_like_the_last(sites: &[TapSite<'_>], number: usize) -> bool
     are_alike(site_at(sites, number - 1), site_at(sites, number))
 }
 
-// Whether the piece with this number has a computation. Nothing is told of it: where it has none, nothing is gained by what the last site read.
-fn has_slots(own: &[List<Slot>], piece: usize) -> bool {
-    match own.get(piece) {
-        Some(slots) => !slots.as_slice().is_empty(),
-        None => false,
-    }
-}
-
-// The readings of the tap site with this number of a cell. They are those of the site before where the two are alike, as they are where a
-// text reads one point many times.
+// The readings of the tap site with this number of a cell, after those of the site before. They are the same where the two are alike, as
+// they are where a text reads one point many times.
 fn next_readings(
     alloc: Global,
     scheduled: &ScheduledSystem<'_>,
@@ -158,47 +152,86 @@ fn next_readings(
     sites: &[TapSite<'_>],
     own: &[List<Slot>],
     number: usize,
-    last: List<TapReading>,
+    last: Option<List<TapReading>>,
 ) -> Result<List<TapReading>, Memory>
     requires consumer { IsReader scheduled.now consumer.now }
     requires sites { map tap_of sites.now ≡ taps_of_reader scheduled.now consumer.now }
     requires own { AreOwn (view_variable consumer.now.var.now) consumer.now.slots.now own.now }
     requires number { number < length sites.now }
-    requires last { (j : ℕ) → j + 1 ≡ number → AreReadAt scheduled.now consumer.now j last }
+    requires last { IfSome last
+        (λ readings. (j : ℕ) → j + 1 ≡ number → AreReadAt scheduled.now consumer.now j readings) }
     ensures { IfOk result (AreReadAt scheduled.now consumer.now number) }
 {
-    let site = site_at(sites, number);
-    if has_slots(own, site.piece()) && is_like_the_last(sites, number) {
-        return Ok(last);
+    if let Some(readings) = last {
+        if is_like_the_last(sites, number) {
+            return Ok(readings);
+        }
     }
-    tap_readings(alloc, scheduled, consumer, site, own)
+    tap_readings(alloc, scheduled, consumer, site_at(sites, number), own)
 }
 
-// Appends the links of all tap sites of a cell.
-fn cell_links(
+// Appends the links of the tap sites of a run.
+fn run_links(
     alloc: Global,
     scheduled: &ScheduledSystem<'_>,
     consumer: &Consumer<'_>,
-    sites: &List<TapSite<'_>>,
+    sites: &[TapSite<'_>],
+    run: SiteRun,
     own: &[List<Slot>],
     links: &mut List<Link>,
 ) -> Result<(), Memory>
     requires consumer { IsReader scheduled.now consumer.now }
     requires sites { map tap_of sites.now ≡ taps_of_reader scheduled.now consumer.now }
+    requires run { IsSiteRun (taps_of_reader scheduled.now consumer.now) run.first run.end }
+    requires own { AreOwn (view_variable consumer.now.var.now) consumer.now.slots.now own.now }
+    ensures { OnOk result (HasLinks (IsTapped (system_of scheduled.now)
+        (helpers_of scheduled.now) (placings_of scheduled.now) (cells_of scheduled.now))
+        (IsBetween consumer.now.number.0 run.first run.end) links.old links.new) }
+{
+    let mut last = None;
+    for number in run.first..run.end {
+        let readings = next_readings(
+            alloc,
+            scheduled,
+            consumer,
+            sites,
+            own,
+            number as usize,
+            last,
+        )?;
+        let at = TapAt {
+            consumer: consumer.number,
+            site: number,
+        };
+        site_links(at, readings.as_slice(), links)?;
+        last = Some(readings);
+    }
+    Ok(())
+}
+
+// Appends the links of all tap sites of a cell. A run has none where its piece has no computation on the cell.
+fn cell_links(
+    alloc: Global,
+    scheduled: &ScheduledSystem<'_>,
+    consumer: &Consumer<'_>,
+    sites: &[TapSite<'_>],
+    runs: &[SiteRun],
+    own: &[List<Slot>],
+    links: &mut List<Link>,
+) -> Result<(), Memory>
+    requires consumer { IsReader scheduled.now consumer.now }
+    requires sites { map tap_of sites.now ≡ taps_of_reader scheduled.now consumer.now }
+    requires runs { AreRuns (taps_of_reader scheduled.now consumer.now) runs.now }
     requires own { AreOwn (view_variable consumer.now.var.now) consumer.now.slots.now own.now }
     ensures { OnOk result (HasLinks (IsTapped (system_of scheduled.now)
         (helpers_of scheduled.now) (placings_of scheduled.now) (cells_of scheduled.now))
         (IsOn consumer.now.number.0) links.old links.new) }
 {
-    let mut readings = List::new(alloc);
-    for number in 0..sites.len() {
-        let some = sites.as_slice();
-        readings = next_readings(alloc, scheduled, consumer, some, own, number, readings)?;
-        let at = TapAt {
-            consumer: consumer.number,
-            site: number as u32,
-        };
-        site_links(at, readings.as_slice(), links)?;
+    for run in runs {
+        let site = site_at(sites, run.first as usize);
+        if !slots_at(own, site.piece()).is_empty() {
+            run_links(alloc, scheduled, consumer, sites, *run, own, links)?;
+        }
     }
     Ok(())
 }
@@ -260,6 +293,14 @@ pub(crate) fn taps_of_node<'s, 'a>(
     &sites[node.0]
 }
 
+// The runs of the tap sites of a node.
+fn runs_of_node(runs: &[List<SiteRun>], node: Node) -> &[SiteRun]
+    requires { node.0 < length runs.now }
+    ensures { slice_get runs.now node.0 ≡ Some result.now }
+{
+    runs[node.0].as_slice()
+}
+
 /// The tap site with this number.
 pub(crate) fn site_at<'s, 'a>(sites: &'s [TapSite<'a>], number: usize) -> &'s TapSite<'a>
     requires { number < length sites.now }
@@ -273,16 +314,19 @@ pub(crate) fn links(alloc: Global, scheduled: &ScheduledSystem<'_>) -> Result<Li
     ensures { IfOk result (LinksOf scheduled.now) }
 {
     let sites = node_taps(alloc, scheduled.timed())?;
+    let runs = node_runs(alloc, sites.as_slice())?;
     let mut links = List::new(alloc);
     for number in 0..scheduled.cells().len() {
         let consumer = consumer_at(scheduled, CellNumber(number as u32));
         let own = taps_of_node(sites.as_slice(), consumer.node);
+        let own_runs = runs_of_node(runs.as_slice(), consumer.node);
         let slots = slots_of_pieces(alloc, &consumer)?;
         cell_links(
             alloc,
             scheduled,
             &consumer,
-            own,
+            own.as_slice(),
+            own_runs,
             slots.as_slice(),
             &mut links,
         )?;

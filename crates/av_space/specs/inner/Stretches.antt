@@ -42,9 +42,9 @@ IsOn p k i = k ≡ p
 abbrev pub IsOnBelow : ℕ → ℕ → ℕ → Type 0
 IsOnBelow p k i = k < p
 
--- of the first sites of a cell
-abbrev pub IsAmong : ℕ → ℕ → ℕ → ℕ → Type 0
-IsAmong p j k i = (k ≡ p) × (i < j)
+-- of the sites of a cell from one number on, up to another
+abbrev pub IsBetween : ℕ → ℕ → ℕ → ℕ → ℕ → Type 0
+IsBetween p first end k i = (k ≡ p) × (first ≤ i) × (i < end)
 
 -- ---- of the readings of one site on one cell, by cycle
 

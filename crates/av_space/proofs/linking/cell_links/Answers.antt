@@ -1,57 +1,78 @@
-use Rattle.std.proofs.Common.{rules, ◌≤◌, ◌<◌, ℕ, List, length, map, sym, subst, ap, ◌∙◌, arith}
-use Rattle.std.proofs.lemmas.List.{length-map}
+use Rattle.std.proofs.Common.{rules, ◌≡◌, ◌≤◌, ℕ, List, [], length, get_or, Some, sym, subst, ap, ◌∙◌, arith}
+use Rattle.std.specs.Prelude.{slice_get}
+use Rattle.std.proofs.lemmas.List.{length-map, nil_from_length}
 use Rattle.av_flat.specs.Trees.{view_system, view_variable}
-use Rattle.av_space.specs.declared.stretch.TapReading.{TapReading}
+use Rattle.av_space.specs.declared.layout.Slot.{Slot}
 use Rattle.av_space.specs.Taps.{Tap, IsTapped}
-use Rattle.av_space.specs.inner.Readings.{AreReadAt, taps_of_reader}
-use Rattle.av_space.specs.inner.Sites.{TapMade, tap_of}
-use Rattle.av_space.specs.inner.Stretches.{HasLinks, IsAt, IsOn, IsAmong, Told, AreByCycle}
-use Rattle.av_space.proofs.JoinedLinks.{among_more, none_put, of_others}
-use Rattle.av_space.proofs.SiteLinks.{few_sites, links_of_reader}
+use Rattle.av_space.specs.inner.Readings.{taps_of_reader}
+use Rattle.av_space.specs.inner.Runs.{AreRunsFrom}
+use Rattle.av_space.specs.inner.Sites.{tap_of}
+use Rattle.av_space.specs.inner.Stretches.{HasLinks, IsOn, IsBetween}
+use Rattle.av_space.proofs.JoinedLinks.{between_more, none_between, of_others}
+use Rattle.av_space.proofs.SiteLinks.{empty_run, few_sites, piece_of_reader}
+use Rattle.av_space.proofs.SiteRuns.{next_run}
 use Rattle.av_space.proofs.linking.cell_links.Goals as goal
+use Rattle.av_space.proofs.linking.cell_links.Goals.{then-not-is_empty+in_ok-run_links, else-not-is_empty}
+use Rattle.av_base.proofs.Lists.{get_mapped, nothing_left}
 
-pub loop-number-init : goal.loop-number-init
-loop-number-init c =
-    let at = c.args.scheduled.now in (
-      none_put (IsTapped (view_system at.timed.flat) at.timed.helpers at.layout.placements at.layout.cells) (IsAmong c.args.consumer.now.number.0 0) c.args.links.now (λ k i x q d a t. let low = a.1 in omega (arith, low)),
-      λ j e. absurd (omega (arith, e)),
-    )
-
-pub next_readings-requires-clause-sites : goal.next_readings-requires-clause-sites
-next_readings-requires-clause-sites c = ap (λ (ts : List TapMade). map tap_of ts) c.as_slice-some.ensures ∙ c.requires.sites
-
-pub next_readings-requires-clause-last : goal.next_readings-requires-clause-last
-next_readings-requires-clause-last c = c.loop-number.invariant.1
-
-pub site_links-requires : goal.site_links-requires
-site_links-requires c =
+pub loop-run-init : goal.loop-run-init
+loop-run-init c =
     let at = c.args.scheduled.now in
-    let reader = c.args.consumer.now in
+    (0, none_between (IsTapped (view_system at.timed.flat) at.timed.helpers at.layout.placements at.layout.cells) c.args.consumer.now.number.0 0 c.args.links.now, c.requires.runs)
+
+pub site_at-site-requires : goal.site_at-site-requires
+site_at-site-requires c =
+    let taps = taps_of_reader c.args.scheduled.now c.args.consumer.now in
+    let run = (next_run taps c.loop-run.invariant.0 c.loop-run.run-index c.args.runs.now (record { first = 0; end = 0 }) c.loop-run-test.true c.loop-run.invariant.2).1 in
     let many = ap (λ (ts : List Tap). length ts) c.requires.sites in
     let size = length-map c.args.sites.now tap_of in
-    let more = c.loop-number-test.true in
-    let count = c.len-number-end.ensures.count in
-    let low : c.loop-number.number < length (taps_of_reader at reader) = omega (arith, many, size, more, count) in
-    subst AreByCycle (sym c.as_slice.ensures) (links_of_reader at reader c.requires.consumer c.loop-number.number c.in_ok-readings.readings low c.in_ok-readings.ensures).0
+    let some = run.some in
+    let within = run.within in
+    omega (arith, many, size, some, within)
 
-pub loop-number-preserved : goal.loop-number-preserved
-loop-number-preserved c =
+pub slots_at-requires : goal.slots_at-requires
+slots_at-requires c =
     let at = c.args.scheduled.now in
     let reader = c.args.consumer.now in
-    let k = c.loop-number.number in
+    let site = c.site_at-site.result.now in
+    let first = (get_or c.args.runs.now c.loop-run.run-index (record { first = 0; end = 0 })).first in
+    let is_tap = ap (λ (ts : List Tap). slice_get ts first) (sym c.requires.sites) ∙ get_mapped tap_of c.args.sites.now first site c.site_at-site.ensures in
+    let low = piece_of_reader at reader c.requires.consumer c.args.own.now c.requires.own first (tap_of site) is_tap in
+    let piece = c.piece.ensures in
+    omega (arith, low, piece)
+
+pub run_links-requires-clause-run : goal.run_links-requires-clause-run
+run_links-requires-clause-run c =
+    let taps = taps_of_reader c.args.scheduled.now c.args.consumer.now in
+    (next_run taps c.loop-run.invariant.0 c.loop-run.run-index c.args.runs.now (record { first = 0; end = 0 }) c.loop-run-test.true c.loop-run.invariant.2).1
+
+pub loop-run-preserved : goal.loop-run-preserved
+loop-run-preserved c =
+    let at = c.args.scheduled.now in
+    let reader = c.args.consumer.now in
+    let T = IsTapped (view_system at.timed.flat) at.timed.helpers at.layout.placements at.layout.cells in
     let p = reader.number.0 in
-    let readings = c.in_ok-readings.readings in
-    let many = ap (λ (ts : List Tap). length ts) c.requires.sites in
-    let size = length-map c.args.sites.now tap_of in
-    let more = c.loop-number-test.true in
-    let count = c.len-number-end.ensures.count in
-    let low : k < length (taps_of_reader at reader) = omega (arith, many, size, more, count) in
-    let own = (links_of_reader at reader c.requires.consumer k readings low c.in_ok-readings.ensures).1 in
-    let mid = c.loop-number.links in
-    let new = c.site_links.new.links in (
-      among_more (IsTapped (view_system at.timed.flat) at.timed.helpers at.layout.placements at.layout.cells) p k c.args.links.now mid new c.loop-number.invariant.0
-          (own mid new (subst (λ (rs : List TapReading). HasLinks (Told rs) (IsAt p k) mid new) c.as_slice.ensures c.in_ok-site_links.ensures)),
-      λ j e. subst (λ (i : ℕ). AreReadAt at reader i readings) (omega (arith, e)) c.in_ok-readings.ensures,
+    let taps = taps_of_reader at reader in
+    let reached = c.loop-run.invariant.0 in
+    let run = get_or c.args.runs.now c.loop-run.run-index (record { first = 0; end = 0 }) in
+    let turn = next_run taps reached c.loop-run.run-index c.args.runs.now (record { first = 0; end = 0 }) c.loop-run-test.true c.loop-run.invariant.2 in
+    let site = c.site_at-site.result.now in
+    let slots = c.slots_at.result.now in
+    let mid = c.loop-run.links in
+    let some = turn.1.some in
+    let begins = turn.0 in
+    let added : HasLinks T (IsBetween p run.first run.end) mid c.if-not-is_empty.links = elim c.if-not-is_empty.branch [
+      | then-not-is_empty+in_ok-run_links w ↦ subst (HasLinks T (IsBetween p run.first run.end) mid) (sym w.links-is) w.in_ok-run_links.ensures
+      | else-not-is_empty w ↦ (
+          let is_tap = ap (λ (ts : List Tap). slice_get ts run.first) (sym c.requires.sites) ∙ get_mapped tap_of c.args.sites.now run.first site c.site_at-site.ensures in
+          let size : length slots ≡ 0 = search rules in
+          let none : slice_get c.args.own.now site.place.piece ≡ Some [] = ap (slice_get c.args.own.now) (sym c.piece.ensures) ∙ c.slots_at.ensures ∙ ap (λ (ts : List Slot). Some ts) (nil_from_length slots size) in
+          subst (HasLinks T (IsBetween p run.first run.end) mid) (sym w.links-is) (empty_run at reader c.requires.consumer c.args.own.now c.requires.own run.first run.end turn.1 (tap_of site) is_tap none mid))
+    ] in (
+      run.end,
+      between_more T p 0 reached run.end c.args.links.now mid c.if-not-is_empty.links (omega arith) (omega (arith, some, begins)) c.loop-run.invariant.1
+          (subst (λ (n : ℕ). HasLinks T (IsBetween p n run.end) mid c.if-not-is_empty.links) begins added),
+      turn.2,
     )
 
 pub returns : goal.returns
@@ -61,13 +82,13 @@ returns c =
     let placings = c.args.scheduled.now.layout.placements in
     let cells = c.args.scheduled.now.layout.cells in
     let p = c.args.consumer.now.number.0 in
-    of_others (IsTapped s hs placings cells) (IsAmong p c.loop-number.number) (IsOn p) c.args.links.now c.loop-number.links (λ k i a. a.0)
+    let end = c.loop-run.invariant.0 in
+    let over : length c.args.runs.now ≤ c.loop-run.run-index = search rules in
+    let whole : end ≡ length (taps_of_reader c.args.scheduled.now c.args.consumer.now) =
+    subst (AreRunsFrom (taps_of_reader c.args.scheduled.now c.args.consumer.now) end) (nothing_left c.args.runs.now c.loop-run.run-index over) c.loop-run.invariant.2 in
+    of_others (IsTapped s hs placings cells) (IsBetween p 0 end) (IsOn p) c.args.links.now c.loop-run.links (λ k i a. a.0)
     (λ k j i q d e t.
     let here = subst (λ (a : ℕ). IsTapped s hs placings cells a j i q d) e t in
     let low = few_sites s hs placings cells p c.args.consumer.now.node.0 (view_variable c.args.consumer.now.var.now) c.args.consumer.now.slots.now c.requires.consumer.is j i q d here in
-    let size = length-map c.args.sites.now tap_of in
-    let many = ap (λ (ts : List Tap). length ts) c.requires.sites in
-    let done : c.len-number-end.result ≤ c.loop-number.number = search rules in
-    let count = c.len-number-end.ensures.count in
-    (e, omega (arith, low, size, many, done, count)))
-    c.loop-number.invariant.0
+    (e, omega arith, omega (arith, low, whole)))
+    c.loop-run.invariant.1
